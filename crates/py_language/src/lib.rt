@@ -1,0 +1,13 @@
+//! What the language is: the definitions by which a text is read as Python.
+//!
+//! The words of this crate are what a reader must believe of reading: tokens, expression trees, the forms of
+//! modules. They are recursions on the text, the list of tokens or the tree, apart from the code of the
+//! layers above, which are proved to compute them. The plain data types that the words speak of stand here
+//! too. This layer reads nothing itself.
+//!
+//! It stands on `py_syntax` and `pyn_base`.
+#![tactic(auto)]
+
+mod token;
+
+pub use token::{Keyword, Logical, Mark, Token, Tokens};

@@ -1,0 +1,31 @@
+// Refusals: where and why a text is not read or not accepted.
+ghost use Rattle.std.specs.Prelude.{◌≡◌};
+ghost use Rattle.py_syntax.specs.declared.refusal.Refusal.TheVariants as refusal;
+
+use crate::Line;
+use pyn_base::{Construct, Memory};
+use std::alloc::AllocError;
+
+#[derive(Clone, Copy, Debug, PartialEq, Eq)]
+pub enum Refusal {
+    /// The text is refused, for this construct on this line.
+    Refused { line: Line, construct: Construct },
+    /// Memory was wanted and not found.
+    Memory,
+}
+
+impl From<Memory> for Refusal {
+    ghost from_gives = { λ _ e. e ≡ refusal.Memory };
+
+    fn from(_: Memory) -> Self {
+        Refusal::Memory
+    }
+}
+
+impl From<AllocError> for Refusal {
+    ghost from_gives = { λ _ e. e ≡ refusal.Memory };
+
+    fn from(_: AllocError) -> Self {
+        Refusal::Memory
+    }
+}

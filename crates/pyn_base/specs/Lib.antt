@@ -1,0 +1,7 @@
+pub mod Construct
+pub mod Desk
+pub mod Files
+pub mod Int
+pub mod MemoryDesk
+pub mod Shelf
+pub mod SteadyDesk

@@ -1,0 +1,61 @@
+// A name, which a contract sees as the list of its characters.
+ghost use Rattle.std.specs.Prelude.{◌≡◌, ℕ, List, IfOk, bytes_eq, chars, encode_utf8_all};
+
+use crate::{Memory, Text};
+use std::alloc::Global;
+use std::marker::Model;
+
+/// A name of the module under test, such as that of a variable, a function, a class or an attribute.
+#[derive(Debug, Drop)]
+pub struct Name {
+    text: Text,
+}
+
+impl Model for Name {
+    ghost Value = { List ℕ };
+
+    ghost view = { λ n. n.text };
+}
+
+impl Name {
+    pub fn from_str(alloc: Global, name: &str) -> Result<Self, Memory>
+        ensures { IfOk result (λ n. n ≡ chars name.now) }
+    {
+        Ok(Name {
+            text: Text::from_str(alloc, name)?,
+        })
+    }
+
+    pub fn from_text(text: Text) -> Self
+        ensures { result ≡ text }
+    {
+        Name { text }
+    }
+
+    pub fn as_str(&self) -> &str
+        ensures chars { chars result.now ≡ self.now }
+        ensures bytes { result.now ≡ encode_utf8_all self.now }
+    {
+        self.text.as_str()
+    }
+
+    pub fn is(&self, other: &str) -> bool
+        ensures { result ≡ bytes_eq self.now (chars other.now) }
+    {
+        self.text.is(other)
+    }
+
+    pub fn is_same(&self, other: &Name) -> bool
+        ensures { result ≡ bytes_eq self.now other.now }
+    {
+        self.text.is_same(&other.text)
+    }
+
+    pub fn to_owned(&self, alloc: Global) -> Result<Self, Memory>
+        ensures { IfOk result (λ n. n ≡ self.now) }
+    {
+        Ok(Name {
+            text: self.text.to_owned(alloc)?,
+        })
+    }
+}

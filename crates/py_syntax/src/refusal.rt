@@ -5,12 +5,16 @@ ghost use Rattle.py_syntax.specs.declared.refusal.Refusal.TheVariants as refusal
 use crate::Line;
 use pyn_base::{Construct, Memory};
 use std::alloc::AllocError;
+use thiserror::Error;
 
-#[derive(Clone, Copy, Debug, PartialEq, Eq)]
+/// Why a text is not read or not accepted.
+#[derive(Clone, Copy, Debug, PartialEq, Eq, Error)]
 pub enum Refusal {
     /// The text is refused, for this construct on this line.
+    #[error("line {line}: {construct}")]
     Refused { line: Line, construct: Construct },
     /// Memory was wanted and not found.
+    #[error("out of memory")]
     Memory,
 }
 

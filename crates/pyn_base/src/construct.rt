@@ -1,6 +1,8 @@
 // Names of constructs: what a refusal, or a run that leaves the subset, gives as its reason.
-ghost use Rattle.std.specs.Prelude.{◌≡◌};
+ghost use Rattle.std.specs.Prelude.{◌≡◌, Some};
 ghost use Rattle.pyn_base.specs.Construct.{text_of};
+
+use std::fmt;
 
 /// A construct outside the supported subset, or a form that a file lacks.
 #[derive(Clone, Copy, Debug, PartialEq, Eq)]
@@ -179,5 +181,13 @@ impl Construct {
             Construct::TooLong => "too long",
             Construct::Report => "report",
         }
+    }
+}
+
+impl fmt::Display for Construct {
+    ghost output = { λ c. Some (text_of c) };
+
+    fn fmt<W: fmt::Write>(&self, f: &mut fmt::Formatter<W>) -> fmt::Result {
+        f.write_str(self.text())
     }
 }

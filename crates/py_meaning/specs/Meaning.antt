@@ -1,6 +1,7 @@
 -- The plain meaning of programs (Language Reference, chapters 4, 6, 7 and 8), as far as the program's modules go:
 -- functions without parameters that return a literal, and tests that call them. What has no meaning yet leaves.
-use Rattle.std.specs.Prelude.{ℕ, zero, suc, ◌+◌, ◌-◌, ◌<◌, Bool, true, false, if◌then◌else◌, bytes_eq, nat_lt, List, [], ◌∷◌, ◌++◌, Option, Some, None, Result, Ok, Err, position, slice_get, option_and_then}
+use Rattle.std.specs.Prelude.{ℕ, zero, suc, ◌+◌, ◌-◌, ◌<◌, Bool, true, false, if◌then◌else◌, bytes_eq, nat_lt, List, [], ◌∷◌, ◌++◌, Option, Some, None, Result, Ok, Err, slice_get, option_and_then}
+use Rattle.std.specs.List.{position_from}
 use Rattle.pyn_base.specs.declared.construct.Construct.TheVariants.{Form, CallDepth, UnknownName}
 use Rattle.py_syntax.specs.declared.expr.Expr.{Expr}
 use Rattle.py_syntax.specs.declared.expr.Args.{Args, out-Args}
@@ -32,7 +33,7 @@ binds name x = λ s. (Ok v.None, record s { variables = (name, x) ∷ s.variable
 
 -- the number of the first function of a name
 abbrev pub place_of : List Func → List ℕ → Option ℕ
-place_of funcs name = position (λ (f : Func). bytes_eq f.name name) funcs
+place_of funcs name = position_from (λ (f : Func). bytes_eq name f.name) 0 funcs
 
 abbrev pub function_named : List Func → List ℕ → Option Func
 function_named funcs name = option_and_then (slice_get funcs) (place_of funcs name)
@@ -109,6 +110,7 @@ module _ (funcs : List Func) where
     pub value_in : ℕ → Expr → Run Value
     value_in zero e = stop OutOfSteps
     value_in (suc n) e = begins e.node >> value_by funcs (value_in n) (does_in n) (out-ExprKind e.kind)
+
     pub does_in : ℕ → Stmt → Run Value
     does_in zero s = stop OutOfSteps
     does_in (suc n) s = begins s.node >> does_by funcs (value_in n) (does_in n) (out-StmtKind s.kind)

@@ -1,5 +1,6 @@
 -- The report of a suite, and when a suite is minimal.
-use Rattle.std.specs.Prelude.{◌≡◌, ℕ, ◌<◌, Bool, true, ◌&&◌, nat_lt, List, [], ◌∷◌, ◌++◌, map, Option, position}
+use Rattle.std.specs.Prelude.{◌≡◌, ℕ, ◌<◌, Bool, true, ◌&&◌, nat_lt, List, [], ◌∷◌, ◌++◌, map, Option}
+use Rattle.std.specs.List.{position_from}
 use Rattle.std.specs.Option.{option_map}
 use Rattle.pyn_base.specs.declared.ids.TestId.{TestId}
 use Rattle.py_syntax.specs.declared.module.Module.{Module}
@@ -17,7 +18,7 @@ test_id k = record { 0 = k }
 -- a goal, with the first test that takes it
 abbrev pub goal_line : List TestRun → Goal → GoalLine
 goal_line ran goal =
-    record { kind = goal.kind; line = goal.line; by = option_map test_id (position (λ (r : TestRun). is_taken r.trail goal) ran) }
+    record { kind = goal.kind; line = goal.line; by = option_map test_id (position_from (λ (r : TestRun). is_taken r.trail goal) 0 ran) }
 
 -- the goals of a module, as these tests cover them
 abbrev pub goal_lines : Module → ℕ → List TestCase → List GoalLine

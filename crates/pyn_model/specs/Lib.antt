@@ -1,5 +1,7 @@
 pub mod Calls
+pub mod CallsReport
 pub mod FileRun
+pub mod FirstModules
 pub mod Goals
 pub mod Judged
 pub mod Report

@@ -1,5 +1,5 @@
 -- The text of a report.
-use Rattle.std.specs.Prelude.{ℕ, suc, Bool, true, false, List, [], ◌∷◌, ◌++◌, length, Option, Some, None, codes, decimal, count_by, is_some}
+use Rattle.std.specs.Prelude.{ℕ, ◌+◌, Bool, true, false, List, [], ◌∷◌, ◌++◌, length, Option, Some, None, codes, decimal, count_by, is_some}
 use Rattle.pyn_base.specs.Construct.{text_of}
 use Rattle.pyn_model.specs.declared.report.GoalKind.{GoalKind}
 use Rattle.pyn_base.specs.declared.ids.TestId.{TestId}
@@ -24,13 +24,13 @@ cover_text (Some k) = codes "covered " ++ decimal k.0
 
 abbrev pub tests_text : ℕ → List TestLine → List ℕ
 tests_text k [] = []
-tests_text k (test ∷ rest) = codes "test " ++ decimal k ++ codes " " ++ end_text test ++ codes "\n" ++ tests_text (suc k) rest
+tests_text k (test ∷ rest) = codes "test " ++ decimal k ++ codes " " ++ end_text test ++ codes "\n" ++ tests_text (k + 1) rest
 
 abbrev pub goals_text : ℕ → List GoalLine → List ℕ
 goals_text k [] = []
 goals_text k (goal ∷ rest) =
     codes "goal " ++ decimal k ++ codes " " ++ kind_text goal.kind ++ codes " " ++ decimal goal.line ++ codes " " ++ cover_text goal.by ++ codes "\n"
-    ++ goals_text (suc k) rest
+    ++ goals_text (k + 1) rest
 
 abbrev pub yes_or_no : Bool → List ℕ
 yes_or_no true = codes "yes"

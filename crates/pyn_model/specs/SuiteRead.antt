@@ -1,37 +1,13 @@
 -- A suite file is read. Its tests have one step each, which calls a function of the module without arguments.
-use Rattle.std.specs.Prelude.{ℕ, suc, ◌+◌, ◌*◌, Bool, ◌&&◌, ◌==◌, if◌then◌else◌, bytes_eq, List, [], ◌∷◌, ◌++◌, Option, Some, None, codes, decimal, option_and_then}
+use Rattle.std.specs.Prelude.{ℕ, ◌+◌, ◌*◌, Bool, ◌&&◌, ◌==◌, if◌then◌else◌, bytes_eq, List, [], ◌∷◌, ◌++◌, Option, Some, None, codes, decimal, option_and_then}
 use Rattle.std.specs.Option.{option_map}
 use Rattle.py_syntax.specs.declared.module.Module.{Module}
+use Rattle.py_language.specs.FirstForm.{lines_of, between, is_empty_line}
 use Rattle.py_meaning.specs.Meaning.{place_of}
 use Rattle.pyn_model.specs.declared.test.Step.TheVariants.{Function}
 use Rattle.pyn_model.specs.declared.test.TestCase.{TestCase}
 use Rattle.pyn_model.specs.declared.test.Suite.{Suite}
 use Rattle.pyn_model.specs.Goals.{functions_of}
-
-abbrev pub with_first : ℕ → List (List ℕ) → Option (List (List ℕ))
-with_first c [] = None
-with_first c (line ∷ rest) = Some ((c ∷ line) ∷ rest)
-
--- the lines of a text, each of which ends with a line feed
-abbrev pub lines_of : List ℕ → Option (List (List ℕ))
-lines_of [] = Some []
-lines_of (c ∷ text) =
-    if c == 10 then option_map (λ rest. [] ∷ rest) (lines_of text) else option_and_then (with_first c) (lines_of text)
-
--- what follows a beginning
-abbrev pub after : List ℕ → List ℕ → Option (List ℕ)
-after [] text = Some text
-after (c ∷ start) [] = None
-after (c ∷ start) (d ∷ text) = if c == d then after start text else None
-
--- what stands before an ending
-abbrev pub before : List ℕ → List ℕ → Option (List ℕ)
-before end [] = if bytes_eq [] end then Some [] else None
-before end (c ∷ text) = if bytes_eq (c ∷ text) end then Some [] else option_map (λ front. c ∷ front) (before end text)
-
--- what stands between a beginning and an ending
-abbrev pub between : List ℕ → List ℕ → List ℕ → Option (List ℕ)
-between start end line = option_and_then (before end) (after start line)
 
 -- test k of the file, which calls a function: two empty lines, its header and its step
 abbrev pub call_case : ℕ → ℕ → TestCase
@@ -45,7 +21,7 @@ call_case k f =
 -- the function that a step's line calls
 abbrev pub callee_of : Module → List ℕ → Option ℕ
 callee_of module' line =
-    option_and_then (place_of (functions_of module')) (between (codes "    var_0 = module_0.") (codes "()") line)
+    option_and_then (place_of (functions_of module')) (between (codes "    var_0 = module_0.") (codes "()\n") line)
 
 abbrev pub cases_in : Module → ℕ → List (List ℕ) → Option (List TestCase)
 cases_in module' k [] = Some []
@@ -53,8 +29,8 @@ cases_in module' k (x ∷ []) = None
 cases_in module' k (x ∷ y ∷ []) = None
 cases_in module' k (x ∷ y ∷ header ∷ []) = None
 cases_in module' k (x ∷ y ∷ header ∷ step ∷ rest) =
-    if bytes_eq x [] && bytes_eq y [] && bytes_eq header (codes "def test_case_" ++ decimal k ++ codes "():")
-    then option_and_then (λ f. option_map (λ cases. call_case k f ∷ cases) (cases_in module' (suc k) rest)) (callee_of module' step)
+    if is_empty_line x && is_empty_line y && bytes_eq header (codes "def test_case_" ++ decimal k ++ codes "():\n")
+    then option_and_then (λ f. option_map (λ cases. call_case k f ∷ cases) (cases_in module' (k + 1) rest)) (callee_of module' step)
     else None
 
 abbrev pub suite_named : Module → List (List ℕ) → List ℕ → Option Suite
@@ -65,10 +41,10 @@ abbrev pub suite_in : Module → List (List ℕ) → Option Suite
 suite_in module' [] = None
 suite_in module' (first ∷ []) = None
 suite_in module' (first ∷ second ∷ rest) =
-    if bytes_eq first (codes "import pytest")
-    then option_and_then (suite_named module' rest) (between (codes "import ") (codes " as module_0") second)
+    if bytes_eq first (codes "import pytest\n")
+    then option_and_then (suite_named module' rest) (between (codes "import ") (codes " as module_0\n") second)
     else None
 
 -- the suite that a text is, for a module
 abbrev pub suite_of : Module → List ℕ → Option Suite
-suite_of module' text = option_and_then (suite_in module') (lines_of text)
+suite_of module' text = suite_in module' (lines_of text)

@@ -1,5 +1,5 @@
 -- The text of a suite, which is a pytest file.
-use Rattle.std.specs.Prelude.{ℕ, suc, List, [], ◌∷◌, ◌++◌, map, codes, decimal}
+use Rattle.std.specs.Prelude.{ℕ, ◌+◌, List, [], ◌∷◌, ◌++◌, map, codes, decimal}
 use Rattle.py_syntax.specs.declared.module.Module.{Module}
 use Rattle.pyn_base.specs.declared.ids.FuncId.{FuncId}
 use Rattle.pyn_model.specs.declared.test.Step.{Step}
@@ -22,13 +22,13 @@ right_text module' (Function f args) =
 abbrev pub steps_text : Module → ℕ → List Step → List ℕ
 steps_text module' k [] = []
 steps_text module' k (step ∷ rest) =
-    codes "    " ++ variable k ++ codes " = " ++ right_text module' step ++ codes "\n" ++ steps_text module' (suc k) rest
+    codes "    " ++ variable k ++ codes " = " ++ right_text module' step ++ codes "\n" ++ steps_text module' (k + 1) rest
 
 abbrev pub tests_text : Module → ℕ → List TestCase → List ℕ
 tests_text module' k [] = []
 tests_text module' k (case ∷ rest) =
     codes "\n\ndef test_case_" ++ decimal k ++ codes "():\n" ++ steps_text module' 0 case.test.steps
-    ++ tests_text module' (suc k) rest
+    ++ tests_text module' (k + 1) rest
 
 -- the text of a suite of a module
 abbrev pub suite_text : Module → Suite → List ℕ

@@ -1,5 +1,5 @@
 -- Tests, and the statements that they are.
-use Rattle.std.specs.Prelude.{ℕ, zero, suc, false, List, [], ◌∷◌, ◌++◌, map, Option, Some, None, codes, decimal, slice_get}
+use Rattle.std.specs.Prelude.{ℕ, zero, ◌+◌, false, List, [], ◌∷◌, ◌++◌, map, Option, Some, None, codes, decimal, slice_get}
 use Rattle.pyn_base.specs.declared.ids.NodeId.{NodeId}
 use Rattle.py_syntax.specs.declared.module.Func.{Func}
 use Rattle.py_syntax.specs.declared.module.Module.{Module}
@@ -37,7 +37,7 @@ variable_read k = expression (e.Name (variable k))
 abbrev pub right_of : Module → Step → Expr
 right_of module' (Function f args) =
     expression (e.Method (expression (e.Name (codes "module_0"))) (function_name module' f.0)
-      (roll-Args record { plain = map variable_read args; named = [] }))
+    (roll-Args record { plain = map variable_read args; named = [] }))
 
 -- step k is the assignment of its right side to variable k
 abbrev pub statement_of : Module → ℕ → Step → Stmt
@@ -46,4 +46,4 @@ statement_of module' k step =
 
 abbrev pub statements_from : Module → ℕ → List Step → List Stmt
 statements_from module' k [] = []
-statements_from module' k (step ∷ rest) = statement_of module' k step ∷ statements_from module' (suc k) rest
+statements_from module' k (step ∷ rest) = statement_of module' k step ∷ statements_from module' (k + 1) rest

@@ -1,0 +1,7 @@
+pub mod Booleans
+pub mod Functions
+pub mod Judging
+pub mod Minimality
+pub mod ReadBack
+pub mod Reading
+pub mod Running

@@ -14,11 +14,7 @@ use Rattle.py_syntax.specs.declared.module.Func.{Func}
 use Rattle.py_syntax.specs.declared.module.Item.{Item}
 use Rattle.py_syntax.specs.declared.module.Item.TheVariants as item
 use Rattle.py_syntax.specs.declared.module.Module.{Module}
-
--- A function of the first form: its name, and the literal that it returns.
-pub record First : Type 0 where
-  pub name : List ℕ
-  pub literal : ExprKind
+pub use Rattle.py_language.specs.declared.first.First.{First}
 
 -- ---- parts of a text
 

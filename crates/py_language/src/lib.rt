@@ -8,8 +8,10 @@
 //! It stands on `py_syntax` and `pyn_base`.
 #![tactic(auto)]
 
+mod first;
 mod first_form_examples;
 mod token;
 
+pub use first::First;
 pub use first_form_examples::examples_of_first_form;
 pub use token::{Keyword, Logical, Mark, Token, Tokens};

@@ -124,3 +124,11 @@ impl PyInt {
         self.value <= other.value
     }
 }
+
+impl From<u64> for PyInt {
+    ghost from_gives = { λ n z. z ≡ pos n };
+
+    fn from(n: u64) -> Self {
+        PyInt { value: n as i128 }
+    }
+}

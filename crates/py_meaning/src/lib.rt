@@ -8,14 +8,18 @@
 //! It stands on `pyn_base` and `py_syntax`.
 #![tactic(auto)]
 
+mod examples;
 mod object;
 mod op;
 mod order;
+mod sequence;
 mod shared;
 mod value;
 
+pub use examples::world_examples;
 pub use object::{ObjKind, Object};
 pub use op::Op;
 pub use order::Order;
+pub use sequence::Sequence;
 pub use shared::Shared;
 pub use value::{PyStr, PyTuple, Value, View};

@@ -1,0 +1,52 @@
+-- Answers and the steps that they cost.
+use Rattle.std.specs.Prelude.{ℕ, ◌-◌, nat_le, if◌then◌else◌}
+use Rattle.pyn_base.specs.declared.class.BuiltClass.{BuiltClass}
+use Rattle.pyn_base.specs.declared.construct.Construct.{Construct}
+use Rattle.py_meaning.specs.declared.op.Op.{Op}
+use Rattle.py_meaning.specs.declared.op.Op.TheVariants as op
+
+-- an answer and the steps left, from the steps that there are
+abbrev pub Costing : Type 0 → Type 0
+Costing A = ℕ → Op A × ℕ
+
+-- an answer that costs nothing
+abbrev pub done : {A : Type 0} → A → Costing A
+done a = λ left. (op.Done a, left)
+
+abbrev pub raises : {A : Type 0} → BuiltClass → Costing A
+raises class = λ left. (op.Raises class, left)
+
+abbrev pub leaves : {A : Type 0} → Construct → Costing A
+leaves construct = λ left. (op.Leaves construct, left)
+
+-- A cost comes before its effect. Where fewer steps are left, nothing happened.
+abbrev pub costs : {A : Type 0} → ℕ → Costing A → Costing A
+costs n run = λ left. if nat_le n left then run (left - n) else (op.OutOfSteps, left)
+
+-- only what is done goes on
+abbrev pub go_on : {A B : Type 0} → Op A → ℕ → (A → Costing B) → Op B × ℕ
+go_on (op.Done a) left next = next a left
+go_on (op.Raises class) left next = (op.Raises class, left)
+go_on (op.Leaves construct) left next = (op.Leaves construct, left)
+go_on op.OutOfSteps left next = (op.OutOfSteps, left)
+go_on op.Memory left next = (op.Memory, left)
+
+infixl 1 ◌>>=◌
+abbrev pub ◌>>=◌ : {A B : Type 0} → Costing A → (A → Costing B) → Costing B
+run >>= next = λ left. go_on (run left).0 (run left).1 next
+
+-- a fact about an answer, but for want of memory, of which nothing is said
+abbrev pub UnlessMemory : {A : Type 0} → Op A → Type 0 → Type 0
+UnlessMemory (op.Done a) P = P
+UnlessMemory (op.Raises class) P = P
+UnlessMemory (op.Leaves construct) P = P
+UnlessMemory op.OutOfSteps P = P
+UnlessMemory op.Memory P = Unit {0}
+
+-- a fact about every answer but what is done
+abbrev pub UnlessDone : {A : Type 0} → Op A → Type 0 → Type 0
+UnlessDone (op.Done a) P = Unit {0}
+UnlessDone (op.Raises class) P = P
+UnlessDone (op.Leaves construct) P = P
+UnlessDone op.OutOfSteps P = P
+UnlessDone op.Memory P = P

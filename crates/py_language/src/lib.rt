@@ -5,13 +5,20 @@
 //! layers above, which are proved to compute them. The plain data types that the words speak of stand here
 //! too. This layer reads nothing itself.
 //!
-//! It stands on `py_syntax` and `pyn_base`.
+//! It stands on `py_cut`, `py_syntax` and `pyn_base`.
 #![tactic(auto)]
 
 mod first;
 mod first_form_examples;
+mod shape;
 mod token;
+mod tree_examples;
 
 pub use first::First;
 pub use first_form_examples::examples_of_first_form;
+pub use shape::{Atom, Bracket, Shape, Symbol};
 pub use token::{Keyword, Logical, Mark, Token, Tokens};
+pub use tree_examples::{
+    depths_by_example, groups_by_example, numbers_by_example, operators_by_example,
+    refusals_by_example,
+};

@@ -4,3 +4,14 @@ pub mod TreesExamples
 pub mod TreesNumbers
 pub mod TreesPlaces
 pub mod TreesSymbols
+pub mod Tokens
+pub mod TokensCharacters
+pub mod TokensEncoding
+pub mod TokensExamples
+pub mod TokensFaults
+pub mod TokensLines
+pub mod TokensMarks
+pub mod TokensNames
+pub mod TokensNumbers
+pub mod TokensPieces
+pub mod TokensStrings

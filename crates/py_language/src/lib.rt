@@ -13,6 +13,7 @@ mod first_form_examples;
 mod shape;
 mod token;
 mod tree_examples;
+mod token_examples;
 
 pub use first::First;
 pub use first_form_examples::examples_of_first_form;
@@ -22,3 +23,4 @@ pub use tree_examples::{
     depths_by_example, groups_by_example, numbers_by_example, operators_by_example,
     refusals_by_example,
 };
+pub use token_examples::worked_tokens;

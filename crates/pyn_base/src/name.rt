@@ -1,5 +1,5 @@
 // A name, which a contract sees as the list of its characters.
-ghost use Rattle.std.specs.Prelude.{◌≡◌, ℕ, List, IfOk, bytes_eq, chars, encode_utf8_all};
+ghost use Rattle.std.specs.Prelude.{◌≡◌, ℕ, List, IfOk, IsAscii, bytes_eq, chars, encode_utf8_all};
 
 use crate::{Memory, Text};
 use std::alloc::Global;
@@ -23,6 +23,16 @@ impl Name {
     {
         Ok(Name {
             text: Text::from_str(alloc, name)?,
+        })
+    }
+
+    /// A name of ASCII characters, from their bytes.
+    pub fn from_ascii(alloc: Global, name: &[u8]) -> Result<Self, Memory>
+        requires { IsAscii name.now }
+        ensures { IfOk result (λ n. n ≡ name.now) }
+    {
+        Ok(Name {
+            text: Text::from_ascii(alloc, name)?,
         })
     }
 

@@ -5,7 +5,8 @@ use Rattle.std.specs.Option.{option_map}
 use Rattle.std.proofs.lemmas.Bool.Decides.{eqb_tells}
 use Rattle.py_syntax.specs.declared.module.Func.{Func}
 use Rattle.py_syntax.specs.declared.module.Module.{Module}
-use Rattle.py_language.specs.FirstForm.{First, func_at, module_of, is_distinct, name_of}
+use Rattle.py_language.specs.declared.first.First.{First}
+use Rattle.py_language.specs.FirstForm.{func_at, module_of, is_distinct, name_of}
 use Rattle.pyn_model.specs.declared.report.GoalKind.TheVariants.{Entry, Reached}
 use Rattle.pyn_model.specs.declared.report.GoalLine.{GoalLine}
 use Rattle.pyn_model.specs.declared.report.TestLine.TheVariants.{Passes}

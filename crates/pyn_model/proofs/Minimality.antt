@@ -7,7 +7,8 @@ use Rattle.std.proofs.lemmas.List.Sums.{count_by-le-length, sum_by-cons}
 use Rattle.std.proofs.lemmas.Bool.Decides.{eqb_tells, nat_tests}
 use Rattle.py_syntax.specs.declared.module.Func.{Func}
 use Rattle.py_syntax.specs.declared.module.Module.{Module}
-use Rattle.py_language.specs.FirstForm.{First, module_of, is_distinct, name_of}
+use Rattle.py_language.specs.declared.first.First.{First}
+use Rattle.py_language.specs.FirstForm.{module_of, is_distinct, name_of}
 use Rattle.pyn_model.specs.declared.report.GoalKind.{GoalKind}
 use Rattle.pyn_model.specs.declared.report.GoalKind.TheVariants.{Entry, Reached}
 use Rattle.pyn_model.specs.declared.report.GoalLine.{GoalLine}

@@ -6,7 +6,8 @@ use Rattle.py_syntax.specs.declared.expr.ExprKind.{ExprKind, out-ExprKind}
 use Rattle.py_syntax.specs.declared.stmt.Stmt.{Stmt}
 use Rattle.py_syntax.specs.declared.module.Func.{Func}
 use Rattle.py_syntax.specs.declared.module.Module.{Module}
-use Rattle.py_language.specs.FirstForm.{First, module_of, is_distinct, name_of, most_functions}
+use Rattle.py_language.specs.declared.first.First.{First}
+use Rattle.py_language.specs.FirstForm.{module_of, is_distinct, name_of, most_functions}
 use Rattle.py_meaning.specs.declared.value.Value.{Value}
 use Rattle.py_meaning.specs.Run.{Run, pure}
 use Rattle.py_meaning.specs.Meaning.{value_by}

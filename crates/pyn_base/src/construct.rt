@@ -1,5 +1,5 @@
 // Names of constructs: what a refusal, or a run that leaves the subset, gives as its reason.
-ghost use Rattle.std.specs.Prelude.{◌≡◌, Some};
+ghost use Rattle.std.specs.Prelude.{◌≡◌, Some, chars};
 ghost use Rattle.pyn_base.specs.Construct.{text_of};
 
 use std::fmt;
@@ -97,6 +97,13 @@ pub enum Construct {
 impl Construct {
     /// The construct's name, as messages and reports have it.
     pub fn text(self) -> &'static str
+        ensures bytes { result.now ≡ text_of self }
+        ensures chars { chars result.now ≡ text_of self }
+    {
+        self.name()
+    }
+
+    fn name(self) -> &'static str
         ensures { result.now ≡ text_of self }
     {
         match self {

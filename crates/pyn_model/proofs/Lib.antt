@@ -1,4 +1,5 @@
 pub mod Booleans
+pub mod Calls
 pub mod Functions
 pub mod Judging
 pub mod Minimality

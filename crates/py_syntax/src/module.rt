@@ -1,4 +1,6 @@
 // Modules, classes and functions (Language Reference 8.7, 8.8 and 9.2).
+ghost use Rattle.std.specs.Prelude.{◌≡◌, option_copied};
+ghost use Rattle.py_syntax.specs.Functions.{function_in};
 
 use crate::{Annotation, Expr, Line, Stmt};
 use pyn_base::{Name, NodeId};
@@ -21,6 +23,20 @@ pub enum Item {
     /// A line that imports names from `typing`; the future line has no names.
     Import(Line, Items<Name>),
     Other(Stmt),
+}
+
+impl Item {
+    /// The function that the item is, if it is one.
+    pub fn function(&self) -> Option<&Func>
+        ensures { option_copied result ≡ function_in self.now }
+    {
+        match self {
+            Item::Func(func) => Some(func),
+            Item::Class(_) => None,
+            Item::Import(_, _) => None,
+            Item::Other(_) => None,
+        }
+    }
 }
 
 #[derive(Drop)]

@@ -2,7 +2,7 @@
 use Rattle.std.proofs.Common.{◌≡◌, sym, ap, ◌∙◌, subst, ℕ, List}
 use Rattle.py_syntax.specs.declared.module.Module.{Module}
 use Rattle.py_language.specs.FirstForm.{module_of}
-use Rattle.pyn_model.specs.Goals.{functions_of}
+use Rattle.py_syntax.specs.Functions.{functions_of}
 use Rattle.pyn_model.specs.Judged.{judged, IsMinimal}
 use Rattle.pyn_model.specs.Calls.{calls_from, calls_suite}
 use Rattle.pyn_model.specs.CallsReport.{calls_report}

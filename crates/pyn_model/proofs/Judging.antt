@@ -10,7 +10,8 @@ use Rattle.py_language.specs.FirstForm.{func_at, module_of, is_distinct, name_of
 use Rattle.pyn_model.specs.declared.report.GoalKind.TheVariants.{Entry, Reached}
 use Rattle.pyn_model.specs.declared.report.GoalLine.{GoalLine}
 use Rattle.pyn_model.specs.declared.report.TestLine.TheVariants.{Passes}
-use Rattle.pyn_model.specs.Goals.{Goal, functions_of, goals_in, goals_of, is_taken}
+use Rattle.py_syntax.specs.Functions.{functions_of}
+use Rattle.pyn_model.specs.Goals.{Goal, goals_in, goals_of, is_taken}
 use Rattle.pyn_model.specs.FileRun.{TestRun, run_case, file_run}
 use Rattle.pyn_model.specs.Judged.{goal_line, goal_lines, test_id}
 use Rattle.pyn_model.specs.SuiteRead.{call_case}

@@ -13,7 +13,8 @@ use Rattle.pyn_model.specs.declared.report.GoalKind.{GoalKind}
 use Rattle.pyn_model.specs.declared.report.GoalKind.TheVariants.{Entry, Reached}
 use Rattle.pyn_model.specs.declared.report.GoalLine.{GoalLine}
 use Rattle.pyn_model.specs.declared.test.TestCase.{TestCase}
-use Rattle.pyn_model.specs.Goals.{Goal, functions_of, goals_of, is_taken}
+use Rattle.py_syntax.specs.Functions.{functions_of}
+use Rattle.pyn_model.specs.Goals.{Goal, goals_of, is_taken}
 use Rattle.pyn_model.specs.FileRun.{TestRun, run_case, file_run}
 use Rattle.pyn_model.specs.Report.{covered_count}
 use Rattle.pyn_model.specs.Judged.{goal_line, goal_lines, goals_taken, IsMinimal, none_can_go, test_id}

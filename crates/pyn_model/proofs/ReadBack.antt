@@ -10,7 +10,7 @@ use Rattle.py_meaning.specs.Meaning.{place_of}
 use Rattle.pyn_model.specs.declared.test.Step.TheVariants.{Function}
 use Rattle.pyn_model.specs.declared.test.TestCase.{TestCase}
 use Rattle.pyn_model.specs.declared.test.Suite.{Suite}
-use Rattle.pyn_model.specs.Goals.{functions_of}
+use Rattle.py_syntax.specs.Functions.{functions_of}
 use Rattle.pyn_model.specs.Tests.{function_name, name_in}
 use Rattle.pyn_model.specs.SuiteText.{right_text, steps_text, tests_text, suite_text}
 use Rattle.pyn_model.specs.SuiteRead.{call_case, callee_of, cases_in, suite_named, suite_in, suite_of}
@@ -23,7 +23,7 @@ use Rattle.pyn_model.proofs.Reading.{lines_of-parts, before-append, one_line-dec
 -- ---- the lines of a test
 
 -- the step of test k, whose function has this name
-abbrev step_line : List ℕ → List ℕ
+abbrev pub step_line : List ℕ → List ℕ
 step_line name = codes "    var_0 = module_0." ++ name ++ codes "()\n"
 
 abbrev header_line : ℕ → List ℕ
@@ -36,7 +36,7 @@ brackets name =
     ∙ append_assoc (name ++ codes "(") (codes ")") (codes "\n")
     ∙ append_assoc name (codes "(") (codes ")\n")
 
-step-is : (m : Module) (k : ℕ) → steps_text m 0 (Function (record { 0 = k }) [] ∷ []) ≡ step_line (function_name m k)
+pub step-is : (m : Module) (k : ℕ) → steps_text m 0 (Function (record { 0 = k }) [] ∷ []) ≡ step_line (function_name m k)
 step-is m k =
     ap (λ digit. codes "    " ++ (codes "var_" ++ digit) ++ codes " = " ++ right_text m (Function (record { 0 = k }) []) ++ codes "\n" ++ []) (decimal_digit 0 (omega arith))
     ∙ ap (λ rest. codes "    var_0 = module_0." ++ rest) (brackets (function_name m k))

@@ -13,7 +13,7 @@ use Rattle.py_meaning.specs.declared.value.Value.{Value}
 use Rattle.py_meaning.specs.Meaning.{place_of}
 use Rattle.pyn_model.specs.FirstModules.{IsLiteral}
 use Rattle.pyn_model.specs.declared.report.TestLine.TheVariants.{Passes}
-use Rattle.pyn_model.specs.Goals.{functions_of}
+use Rattle.py_syntax.specs.Functions.{functions_of}
 use Rattle.pyn_model.specs.FileRun.{TestRun, run_case}
 use Rattle.pyn_model.specs.SuiteRead.{call_case}
 

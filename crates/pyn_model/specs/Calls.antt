@@ -4,7 +4,7 @@ use Rattle.py_syntax.specs.declared.module.Func.{Func}
 use Rattle.py_syntax.specs.declared.module.Module.{Module}
 use Rattle.pyn_model.specs.declared.test.TestCase.{TestCase}
 use Rattle.pyn_model.specs.declared.test.Suite.{Suite}
-use Rattle.pyn_model.specs.Goals.{functions_of}
+use Rattle.py_syntax.specs.Functions.{functions_of}
 use Rattle.pyn_model.specs.SuiteRead.{call_case}
 
 -- one test for each function from number k on

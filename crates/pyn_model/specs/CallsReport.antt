@@ -8,7 +8,7 @@ use Rattle.pyn_model.specs.declared.report.GoalLine.{GoalLine}
 use Rattle.pyn_model.specs.declared.report.TestLine.{TestLine}
 use Rattle.pyn_model.specs.declared.report.TestLine.TheVariants.{Passes}
 use Rattle.pyn_model.specs.declared.report.Report.{Report}
-use Rattle.pyn_model.specs.Goals.{functions_of}
+use Rattle.py_syntax.specs.Functions.{functions_of}
 use Rattle.pyn_model.specs.Judged.{test_id}
 
 -- test k covers the entry of function k, and each statement of its body

@@ -12,7 +12,7 @@ use Rattle.pyn_model.specs.declared.report.TestLine.{TestLine}
 use Rattle.pyn_model.specs.declared.report.TestLine.TheVariants as t
 use Rattle.pyn_model.specs.declared.test.Suite.{Suite}
 use Rattle.pyn_model.specs.declared.test.TestCase.{TestCase}
-use Rattle.pyn_model.specs.Goals.{functions_of}
+use Rattle.py_syntax.specs.Functions.{functions_of}
 use Rattle.pyn_model.specs.Tests.{statements_from}
 
 -- how a test ended, and which nodes of the module began in it

@@ -1,24 +1,12 @@
 -- The goals of a module, and what takes them. (Statement coverage, as in "DynaMOSA", Panichella and others 2018.)
 use Rattle.std.specs.Prelude.{ℕ, Bool, List, [], ◌∷◌, ◌++◌, ◌==◌, if◌then◌else◌, map, filter, Option, Some, None}
-use Rattle.std.specs.List.{list_any, filter_map, flat_map}
+use Rattle.std.specs.List.{list_any, flat_map}
 use Rattle.py_syntax.specs.declared.module.Func.{Func}
-use Rattle.py_syntax.specs.declared.module.Item.{Item}
-use Rattle.py_syntax.specs.declared.module.Item.TheVariants as item
 use Rattle.py_syntax.specs.declared.module.Module.{Module}
+use Rattle.py_syntax.specs.Functions.{functions_of}
 use Rattle.py_syntax.specs.declared.stmt.Stmt.{Stmt}
 use Rattle.pyn_model.specs.declared.report.GoalKind.{GoalKind}
 use Rattle.pyn_model.specs.declared.report.GoalKind.TheVariants.{Entry, Reached}
-
--- the function that an item is
-abbrev pub function_in : Item → Option Func
-function_in (item.Func f) = Some f
-function_in (item.Class c) = None
-function_in (item.Import line names) = None
-function_in (item.Other stmt) = None
-
--- the functions of a module, in order
-abbrev pub functions_of : Module → List Func
-functions_of module' = filter_map function_in module'.items
 
 -- A goal: its kind, its line, and the nodes of which one has to begin.
 pub record Goal : Type 0 where

@@ -7,7 +7,7 @@ use Rattle.py_meaning.specs.Meaning.{place_of}
 use Rattle.pyn_model.specs.declared.test.Step.TheVariants.{Function}
 use Rattle.pyn_model.specs.declared.test.TestCase.{TestCase}
 use Rattle.pyn_model.specs.declared.test.Suite.{Suite}
-use Rattle.pyn_model.specs.Goals.{functions_of}
+use Rattle.py_syntax.specs.Functions.{functions_of}
 
 -- test k of the file, which calls a function: two empty lines, its header and its step
 abbrev pub call_case : ℕ → ℕ → TestCase

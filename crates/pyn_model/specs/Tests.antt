@@ -12,7 +12,7 @@ use Rattle.py_syntax.specs.declared.stmt.StmtKind.TheVariants.{Assign}
 use Rattle.py_syntax.specs.declared.stmt.Target.TheVariants as target
 use Rattle.pyn_model.specs.declared.test.Step.{Step}
 use Rattle.pyn_model.specs.declared.test.Step.TheVariants.{Function}
-use Rattle.pyn_model.specs.Goals.{functions_of}
+use Rattle.py_syntax.specs.Functions.{functions_of}
 
 -- the name of a function of the module
 abbrev pub name_in : Option Func → List ℕ

@@ -22,13 +22,16 @@ abbrev pub covers_from : ℕ → List Func → List GoalLine
 covers_from k [] = []
 covers_from k (f ∷ rest) = function_lines k f ++ covers_from (k + 1) rest
 
+abbrev pub passes : List Func → List TestLine
+passes functions = map (λ (f : Func). Passes) functions
+
 abbrev pub calls_report : List ℕ → Module → Report
 calls_report name module' =
     record {
       «module» = name;
       steps = 20000;
       cap = 0;
-      tests = map (λ (f : Func). Passes) (functions_of module');
+      tests = passes (functions_of module');
       goals = covers_from 0 (functions_of module');
       minimal = true;
     }

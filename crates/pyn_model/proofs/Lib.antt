@@ -1,3 +1,4 @@
+pub mod Accepted
 pub mod Booleans
 pub mod Calls
 pub mod Functions

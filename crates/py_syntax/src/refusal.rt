@@ -4,7 +4,7 @@ ghost use Rattle.py_syntax.specs.declared.refusal.Refusal.TheVariants as refusal
 
 use crate::Line;
 use pyn_base::{Construct, Memory};
-use std::alloc::AllocError;
+use std::alloc::{AllocError, AllocFailed};
 use thiserror::Error;
 
 /// Why a text is not read or not accepted.
@@ -30,6 +30,14 @@ impl From<AllocError> for Refusal {
     ghost from_gives = { λ _ e. e ≡ refusal.Memory };
 
     fn from(_: AllocError) -> Self {
+        Refusal::Memory
+    }
+}
+
+impl<T: Drop> From<AllocFailed<T>> for Refusal {
+    ghost from_gives = { λ _ e. e ≡ refusal.Memory };
+
+    fn from(_: AllocFailed<T>) -> Self {
         Refusal::Memory
     }
 }

@@ -122,10 +122,10 @@ moved a b c d e f lt = omega (arith, e, f, lt)
 -- ---- the suite is minimal
 
 module _ (fs : List First) (distinct : is_distinct (map name_of fs) ≡ true) (return : AllReturn fs) where
-  abbrev calls : List TestCase
+  abbrev pub calls : List TestCase
   calls = calls_from 0 (functions_of (module_of fs))
 
-  all_taken : goals_taken (module_of fs) 20000 calls ≡ length (goals_from 0 fs)
+  pub all_taken : goals_taken (module_of fs) 20000 calls ≡ length (goals_from 0 fs)
   all_taken = ap covered_count (goal_lines-calls fs distinct return) ∙ ap (λ gs. covered_count (covers_from 0 gs)) (functions_of-module fs) ∙ all_covered 0 fs
 
   pub minimal-calls : IsMinimal (module_of fs) 20000 calls

@@ -1,0 +1,5 @@
+pub mod Headline
+pub mod Outputs
+pub mod Run
+pub mod Status
+pub mod Words

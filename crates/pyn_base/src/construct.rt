@@ -4,7 +4,8 @@ ghost use Rattle.pyn_base.specs.Construct.{text_of};
 
 use std::fmt;
 
-/// A construct outside the supported subset, or a form that a file lacks.
+/// A construct outside the supported subset, or a form that a file lacks: the reason of a refusal, or of a run that leaves
+/// the subset. It shows itself as its name.
 #[derive(Clone, Copy, Debug, PartialEq, Eq)]
 pub enum Construct {
     // Faults of the text's characters and tokens.

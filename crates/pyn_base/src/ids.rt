@@ -42,6 +42,7 @@ impl Model for Ids {
 }
 
 impl Ids {
+    /// No numbers. It takes no memory.
     pub fn new(alloc: Global) -> Self
         ensures { result ≡ [] }
     {
@@ -58,18 +59,21 @@ impl Ids {
         Ok(self.ids.push(id)?)
     }
 
+    /// How many numbers there are.
     pub fn len(&self) -> usize
         ensures { result ≡ length self.now }
     {
         self.ids.len()
     }
 
+    /// The numbers as a slice.
     pub fn as_slice(&self) -> &[u32]
         ensures { result.now ≡ self.now }
     {
         self.ids.as_slice()
     }
 
+    /// A copy.
     pub fn to_owned(&self, alloc: Global) -> Result<Self, Memory>
         ensures { IfOk result (λ ids. ids ≡ self.now) }
     {

@@ -18,6 +18,7 @@ impl Model for Name {
 }
 
 impl Name {
+    /// The name that a text spells.
     pub fn from_str(alloc: Global, name: &str) -> Result<Self, Memory>
         ensures { IfOk result (λ n. n ≡ chars name.now) }
     {
@@ -36,12 +37,14 @@ impl Name {
         })
     }
 
+    /// The name that a text spells, without a copy.
     pub fn from_text(text: Text) -> Self
         ensures { result ≡ text }
     {
         Name { text }
     }
 
+    /// The name as text.
     pub fn as_str(&self) -> &str
         ensures chars { chars result.now ≡ self.now }
         ensures bytes { result.now ≡ encode_utf8_all self.now }
@@ -49,18 +52,21 @@ impl Name {
         self.text.as_str()
     }
 
+    /// Whether a text spells it.
     pub fn is(&self, other: &str) -> bool
         ensures { result ≡ bytes_eq self.now (chars other.now) }
     {
         self.text.is(other)
     }
 
+    /// Whether another name is spelled alike.
     pub fn is_same(&self, other: &Name) -> bool
         ensures { result ≡ bytes_eq self.now other.now }
     {
         self.text.is_same(&other.text)
     }
 
+    /// A copy.
     pub fn to_owned(&self, alloc: Global) -> Result<Self, Memory>
         ensures { IfOk result (λ n. n ≡ self.now) }
     {

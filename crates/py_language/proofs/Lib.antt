@@ -1,1 +1,3 @@
+pub mod FirstFormLaws
+pub mod FirstFormLemmas
 pub mod TreesNumbering

@@ -1,5 +1,5 @@
 // What the words for the first form mean, on small texts.
-ghost use Rattle.std.specs.Prelude.{◌≡◌, ◌-◌, ◌^◌, true, false, pos, codes, [], ◌∷◌, Some, None, Ok, Err};
+ghost use Rattle.std.specs.Prelude.{◌≡◌, ◌≤◌, ◌-◌, ◌^◌, ℕ, List, length, take, true, false, pos, codes, [], ◌∷◌, Some, None, Ok, Err};
 ghost use Rattle.pyn_base.specs.declared.construct.Construct.TheVariants.{Form};
 ghost use Rattle.py_syntax.specs.declared.refusal.Refusal.TheVariants.{Refused};
 ghost use Rattle.py_syntax.specs.declared.expr.ExprKind.TheVariants.{NoneLit, BoolLit, IntLit, StrLit};
@@ -34,4 +34,11 @@ pub fn examples_of_first_form()
     ensures one_empty_line { first_form (codes "def f():\n    return 1\n\ndef g():\n    return 2\n") ≡ Err (Refused 4 Form) }
     ensures three_empty_lines { first_form (codes "def f():\n    return 1\n\n\n\ndef g():\n    return 2\n") ≡ Err (Refused 5 Form) }
     ensures one_name_twice { first_form (codes "def f():\n    return 1\n\n\ndef f():\n    return 2\n") ≡ Err (Refused 5 Form) }
+{}
+
+/// The law of the first form's refusals. The function does nothing.
+///
+/// Where a line of a text is refused, no text of the form begins with the lines up to it.
+pub fn laws_of_first_form()
+    ensures refused { (text other : List ℕ) (line : ℕ) → first_form text ≡ Err (Refused line Form) → line ≤ length (lines_of text) → take line (lines_of other) ≡ take line (lines_of text) → functions_of (lines_of other) ≡ None }
 {}

@@ -12,15 +12,15 @@ mod first;
 mod first_form_examples;
 mod shape;
 mod token;
-mod tree_examples;
 mod token_examples;
+mod tree_examples;
 
 pub use first::First;
-pub use first_form_examples::examples_of_first_form;
+pub use first_form_examples::{examples_of_first_form, laws_of_first_form};
 pub use shape::{Atom, Bracket, Shape, Symbol};
 pub use token::{Keyword, Logical, Mark, Token, Tokens};
+pub use token_examples::worked_tokens;
 pub use tree_examples::{
     depths_by_example, groups_by_example, numbers_by_example, operators_by_example,
     refusals_by_example,
 };
-pub use token_examples::worked_tokens;

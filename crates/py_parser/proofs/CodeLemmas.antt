@@ -15,8 +15,8 @@ use Rattle.py_language.specs.declared.first.First.{First}
 use Rattle.py_language.specs.FirstForm.{lines_of, named_by, returned_by, is_empty_line, is_among, name_of, Head, names_up_to, functions_of, answer}
 use Rattle.py_parser.specs.Cut.{first_line}
 use Rattle.py_parser.specs.Names.{knows, new_name}
-use Rattle.py_parser.proofs.FormLemmas.{is_among-append, awaited, awaited-first}
-use Rattle.py_parser.proofs.ReadingLemmas.{Begins, Holds, names-push}
+use Rattle.py_language.proofs.FirstFormLemmas.{is_among-append, awaited, awaited-first}
+use Rattle.py_language.proofs.FirstFormLemmas.{Begins, Holds, names-push}
 
 -- ---- lines that were cut off one by one
 

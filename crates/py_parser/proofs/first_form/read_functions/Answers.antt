@@ -1,10 +1,10 @@
-use Rattle.std.proofs.Common.{◌≡◌, ◌∙◌, sym, ap, refl, ℕ, List, ◌∷◌, ◌+◌, ◌*◌, ◌<◌, map, length, length-append, bytes_eq, Ok, arith}
+use Rattle.std.proofs.Common.{◌≡◌, ◌∙◌, sym, ap, refl, ℕ, List, ◌∷◌, ◌+◌, ◌*◌, ◌<◌, ◌≤◌, map, length, length-append, bytes_eq, Ok, arith}
 use Rattle.std.specs.List.{list_any}
 use Rattle.std.proofs.lemmas.Bool.{eqb-true, eqb-false}
 use denote.Ref.{Bor}
 use Rattle.py_language.specs.FirstForm.{lines_of, name_of, is_distinct, is_among, is_empty_line, returned_by, Head, names_up_to, module_of}
-use Rattle.py_parser.proofs.FormLemmas.{awaited}
-use Rattle.py_parser.proofs.ReadingLemmas.{head_refused, body_refused, last_function, full, gap_refused, second_refused, one_further, still_distinct}
+use Rattle.py_language.proofs.FirstFormLemmas.{awaited}
+use Rattle.py_language.proofs.FirstFormLemmas.{head_refused, body_refused, last_function, full, gap_refused, second_refused, one_further, still_distinct}
 use Rattle.py_parser.proofs.CodeLemmas.{no_new_name, begins_with, opened_def, opened_some, opened_gap, function_read, knows_more, gives_refused, some_lines, no_lines, awaited_at_first}
 use Rattle.py_parser.proofs.first_form.read_functions.Goals as goal
 
@@ -61,7 +61,7 @@ returns-then-len-eq-MOST_FUNCTIONS-clause-refused c =
     let gap = opened_some _ _ _ c.take_line-in-loop-names-2.ensures.line c.take_line-in-loop-names-2.ensures.rest (some_lines c.take_line-in-loop-names.result.1.now (omega (arith, goes_on))) in
     let opened = read.lines_are ∙ ap (λ left. c.take_line.result.0.now ∷ c.take_line-in-loop-names.result.0.now ∷ left) gap in
     let size : length c.push.new.self.items ≡ length done + 1 = ap length c.in_ok-push.ensures.items ∙ length-append done _ in
-    let all : length done + 1 ≡ 2000 = omega (arith, size, c.len-in-loop-names.ensures, c.if-len-eq-MOST_FUNCTIONS.true) in
+    let all : 2000 ≤ length done + 1 = omega (arith, size, c.len-in-loop-names.ensures, c.if-len-eq-MOST_FUNCTIONS.true) in
     gives_refused c.refused-then-len-eq-MOST_FUNCTIONS.result _ (4 * length done + 1) 2 _ c.refused-then-len-eq-MOST_FUNCTIONS.ensures (omega (arith, c.len.ensures))
     (c.loop-names.invariant.awaited ∙ ap (awaited done) opened ∙ full done _ _ _ c.take_line-in-loop-names-2.result.0.now (lines_of c.take_line-in-loop-names-2.result.1.now) read.holds all)
 

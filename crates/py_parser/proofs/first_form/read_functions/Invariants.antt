@@ -1,7 +1,7 @@
 use Rattle.std.proofs.Common.{◌≡◌, ◌<◌, ℕ, List, true, length, map}
 use Rattle.py_language.specs.FirstForm.{first_form, lines_of, is_among, is_distinct, name_of}
 use Rattle.py_parser.specs.Names.{knows}
-use Rattle.py_parser.proofs.FormLemmas.{awaited}
+use Rattle.py_language.proofs.FirstFormLemmas.{awaited}
 use Rattle.py_parser.proofs.first_form.read_functions.Given as goal
 
 abbrev pub invariant-loop-names : goal.invariant-loop-names

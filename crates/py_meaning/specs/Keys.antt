@@ -9,7 +9,6 @@ use Rattle.py_meaning.specs.declared.object.Object.TheVariants as object
 use Rattle.py_meaning.specs.declared.op.Op.{Op}
 use Rattle.py_meaning.specs.declared.op.Op.TheVariants as op
 use Rattle.py_meaning.specs.declared.value.Value.{Value, Value-F, out-Value, fold-Value}
-use Rattle.py_meaning.specs.Lists.{with_second}
 use Rattle.py_meaning.specs.Values.{same_single, at_place}
 use Rattle.py_meaning.specs.Worlds.{World, Pairs, object_at}
 
@@ -71,15 +70,3 @@ value_of_key key pairs = option_map (λ pair. pair.1) (at_place pairs (key_place
 -- The number of key changes stays at the greatest `u64` once it is there.
 abbrev pub one_change_more : ℕ → ℕ
 one_change_more changes = min (changes + 1) (2 ^ 64 - 1)
-
-abbrev put_at : Value → Value → Pairs → ℕ → Option ℕ → Object
-put_at key value pairs changes None = object.Dict (pairs ++ (key, value) ∷ []) (one_change_more changes)
-put_at key value pairs changes (Some at) = object.Dict (with_second pairs at value) changes
-
--- A later value for a key that is there keeps the place and the key; a new key goes last.
-abbrev pub put_pair : Value → Value → Pairs → ℕ → Object
-put_pair key value pairs changes = put_at key value pairs changes (key_place key pairs)
-
--- the dict without the pair at a place
-abbrev pub without_pair : Pairs → ℕ → ℕ → Object
-without_pair pairs changes at = object.Dict (remove pairs at) (one_change_more changes)

@@ -1,5 +1,5 @@
 -- What each call of a table of objects does to the world, one function a call.
-use Rattle.std.specs.Prelude.{ℕ, ◌+◌, ◌-◌, min, ℤ, pos, negsuc, ◌+ℤ◌, nat_lt, nat_le, Bool, true, false, if◌then◌else◌, bytes_eq, List, [], ◌∷◌, ◌++◌, length, map, sum, slice_get, slice_set, remove, Option, Some, None}
+use Rattle.std.specs.Prelude.{ℕ, ◌+◌, ◌-◌, min, ℤ, pos, negsuc, ◌+ℤ◌, nat_lt, if◌then◌else◌, bytes_eq, List, [], ◌∷◌, ◌++◌, length, map, sum, slice_get, slice_set, remove, Option, Some, None}
 use Rattle.std.specs.List.{position, insert}
 use Rattle.std.specs.Option.{option_map}
 use Rattle.pyn_base.specs.Int.{in_range}
@@ -7,7 +7,6 @@ use Rattle.pyn_base.specs.declared.class.BuiltClass.TheVariants.{TypeError, Inde
 use Rattle.pyn_base.specs.declared.class.ClassId.{ClassId}
 use Rattle.pyn_base.specs.declared.construct.Construct.TheVariants as construct
 use Rattle.pyn_base.specs.declared.ids.ObjId.{ObjId}
-use Rattle.pyn_base.specs.declared.name.Name.{Name}
 use Rattle.py_meaning.specs.declared.object.Object.{Object}
 use Rattle.py_meaning.specs.declared.object.Object.TheVariants as object
 use Rattle.py_meaning.specs.declared.object.ObjKind.{ObjKind}
@@ -16,34 +15,19 @@ use Rattle.py_meaning.specs.declared.op.Op.{Op}
 use Rattle.py_meaning.specs.declared.op.Op.TheVariants as op
 use Rattle.py_meaning.specs.declared.value.Value.{Value, Value-F, out-Value}
 use Rattle.py_meaning.specs.declared.value.Value.TheVariants as value
-use Rattle.py_meaning.specs.Steps.{Costing, done, raises, leaves, costs, ◌>>=◌}
+use Rattle.py_meaning.specs.Steps.{Costing, Change, done, raises, leaves, costs, ◌>>=◌}
 use Rattle.py_meaning.specs.Lists.{with_second}
 use Rattle.py_meaning.specs.Values.{number_of, at_place}
 use Rattle.py_meaning.specs.Worlds.{World, Pairs, Attributes, object_at, elements, pairs, attributes, with_object}
-use Rattle.py_meaning.specs.Keys.{as_key, all_keys, key_cost, key_place, value_of_key, put_pair, without_pair, one_change_more}
-
--- An operation costs steps, and where it is done gives an answer and the world after it.
-abbrev pub Change : Type 0 → Type 0
-Change A = World → Costing (A × World)
-
-abbrev settle : {A : Type 0} → World → Op (A × World) → ℕ → Op A × World × ℕ
-settle world (op.Done made) left = (op.Done made.0, made.1, left)
-settle world (op.Raises class) left = (op.Raises class, world, left)
-settle world (op.Leaves construct) left = (op.Leaves construct, world, left)
-settle world op.OutOfSteps left = (op.OutOfSteps, world, left)
-settle world op.Memory left = (op.Memory, world, left)
-
--- Answer, world and steps left. After any answer but what is done the world is as it was.
-abbrev pub changes : {A : Type 0} → Change A → World → ℕ → Op A × World × ℕ
-changes change world left = settle world (change world left).0 (change world left).1
-
--- the same of an operation that costs nothing
-abbrev pub changes_free : {A : Type 0} → Change A → World → Op A × World
-changes_free change world = ((changes change world 0).0, (changes change world 0).1)
+use Rattle.py_meaning.specs.Keys.{as_key, all_keys, key_cost, key_place, value_of_key, one_change_more}
 
 -- a new object goes last, and its place names it
 abbrev pub made : Object → World → ObjId × World
 made object world = (record { 0 = length world }, world ++ object ∷ [])
+
+-- what changes one object changes the world there
+abbrev pub on_object : {A : Type 0} → ObjId → Change Object A → Change World A
+on_object id change world = change (object_at world id) >>= (λ made. done (made.0, with_object world id made.1))
 
 -- Kinds, sizes and parts.
 
@@ -65,7 +49,7 @@ abbrev pub args_of : Object → Option (List Value)
 args_of (object.Instance class attributes args) = args
 args_of _ = None
 
--- Lists.
+-- Lists (the manual, "Mutable Sequence Types"). Of an object of another kind nothing is done.
 
 -- The place that an index means in a sequence of so many, below 0 from the end.
 abbrev pub index_place : ℤ → ℕ → Option ℕ
@@ -80,39 +64,50 @@ insert_place (negsuc back) count = count - (back + 1)
 abbrev pub list_get : ObjId → ℤ → World → Option Value
 list_get list at world = at_place (elements world list) (index_place at (length (elements world list)))
 
-abbrev pub make_list : List Value → Change ObjId
+abbrev pub make_list : List Value → Change World ObjId
 make_list items world = costs (length items) (done (made (object.List items) world))
 
--- the list itself gets other elements
-abbrev pub with_elements : ObjId → List Value → World → World
-with_elements list items world = with_object world list (object.List items)
+abbrev pub set_at : Value → List Value → Option ℕ → Costing (Unit {0} × Object)
+set_at new items None = raises IndexError
+set_at new items (Some at) = done (tt, object.List (slice_set items at new))
 
-abbrev set_at : ObjId → Value → World → List Value → Option ℕ → Costing (Unit {0} × World)
-set_at list new world items None = raises IndexError
-set_at list new world items (Some at) = done (tt, with_elements list (slice_set items at new) world)
+abbrev pub set_item : ℤ → Value → Change Object (Unit {0})
+set_item at new (object.List items) = set_at new items (index_place at (length items))
+set_item at new other = raises IndexError
 
-abbrev pub list_set : ObjId → ℤ → Value → Change (Unit {0})
-list_set list at new world = set_at list new world (elements world list) (index_place at (length (elements world list)))
+abbrev pub insert_item : ℤ → Value → Change Object (Unit {0})
+insert_item at new (object.List items) = costs (length items + 1) (done (tt, object.List (insert items (insert_place at (length items)) new)))
+insert_item at new other = done (tt, other)
 
-abbrev pub list_insert : ObjId → ℤ → Value → Change (Unit {0})
-list_insert list at new world = let items = elements world list in
-    costs (length items + 1) (done (tt, with_elements list (insert items (insert_place at (length items)) new) world))
+abbrev pub taken_at : List Value → ℕ → Option Value → Costing (Value × Object)
+taken_at items at None = raises IndexError
+taken_at items at (Some item) = done (item, object.List (remove items at))
 
-abbrev taken_at : ObjId → World → List Value → ℕ → Option Value → Costing (Value × World)
-taken_at list world items at None = raises IndexError
-taken_at list world items at (Some item) = done (item, with_elements list (remove items at) world)
+abbrev pub remove_at : List Value → Option ℕ → Costing (Value × Object)
+remove_at items None = raises IndexError
+remove_at items (Some at) = taken_at items at (slice_get items at)
 
-abbrev remove_at : ObjId → World → List Value → Option ℕ → Costing (Value × World)
-remove_at list world items None = raises IndexError
-remove_at list world items (Some at) = taken_at list world items at (slice_get items at)
+abbrev pub remove_item : ℤ → Change Object Value
+remove_item at (object.List items) = costs (length items) (remove_at items (index_place at (length items)))
+remove_item at other = raises IndexError
 
-abbrev pub list_remove : ObjId → ℤ → Change Value
-list_remove list at world = let items = elements world list in costs (length items) (remove_at list world items (index_place at (length items)))
+abbrev pub extend_items : List Value → Change Object (Unit {0})
+extend_items more (object.List items) = costs (length more) (done (tt, object.List (items ++ more)))
+extend_items more other = done (tt, other)
 
-abbrev pub list_extend : ObjId → List Value → Change (Unit {0})
-list_extend list more world = costs (length more) (done (tt, with_elements list (elements world list ++ more) world))
+abbrev pub list_set : ObjId → ℤ → Value → Change World (Unit {0})
+list_set list at new = on_object list (set_item at new)
 
--- Dicts. A key's cost comes first, also where it is no key.
+abbrev pub list_insert : ObjId → ℤ → Value → Change World (Unit {0})
+list_insert list at new = on_object list (insert_item at new)
+
+abbrev pub list_remove : ObjId → ℤ → Change World Value
+list_remove list at = on_object list (remove_item at)
+
+abbrev pub list_extend : ObjId → List Value → Change World (Unit {0})
+list_extend list more = on_object list (extend_items more)
+
+-- Dicts (the manual, "Mapping Types"). A key's cost comes first, also where it is no key.
 
 -- what follows where a value is a key, and its own answer where it is none
 abbrev pub for_key : {A : Type 0} → Op (Unit {0}) → Costing A → Costing A
@@ -122,43 +117,48 @@ for_key (op.Leaves construct) next = leaves construct
 for_key op.OutOfSteps next = λ left. (op.OutOfSteps, left)
 for_key op.Memory next = λ left. (op.Memory, left)
 
-abbrev or_key_error : {A : Type 0} → Option A → Costing A
+abbrev pub or_key_error : {A : Type 0} → Option A → Costing A
 or_key_error None = raises KeyError
 or_key_error (Some x) = done x
 
 abbrev pub dict_get : ObjId → Value → World → Costing Value
 dict_get dict key world = costs (key_cost key) (for_key (as_key world key) (or_key_error (value_of_key key (pairs world dict))))
 
-abbrev put_in : Value → Value → Object → Object
-put_in key new (object.Dict pairs changes) = put_pair key new pairs changes
-put_in key new other = other
+abbrev pub put_at : Value → Value → Pairs → ℕ → Option ℕ → Object
+put_at key value pairs changes None = object.Dict (pairs ++ (key, value) ∷ []) (one_change_more changes)
+put_at key value pairs changes (Some at) = object.Dict (with_second pairs at value) changes
 
-abbrev pub dict_put : ObjId → Value → Value → Change (Unit {0})
-dict_put dict key new world = costs (key_cost key) (for_key (as_key world key) (done (tt, with_object world dict (put_in key new (object_at world dict)))))
+-- A later value for a key that is there keeps the place and the key; a new key goes last.
+abbrev pub put_pair : Value → Value → Object → Object
+put_pair key value (object.Dict pairs changes) = put_at key value pairs changes (key_place key pairs)
+put_pair key value other = other
 
-abbrev delete_from : ObjId → World → Pairs → ℕ → ℕ → Option (Value × Value) → Costing (Value × World)
-delete_from dict world pairs changes at None = raises KeyError
-delete_from dict world pairs changes at (Some pair) = done (pair.1, with_object world dict (without_pair pairs changes at))
+abbrev pub dict_put : ObjId → Value → Value → Change World (Unit {0})
+dict_put dict key new world = costs (key_cost key) (for_key (as_key world key)
+    (on_object dict (λ held. done (tt, put_pair key new held)) world))
 
-abbrev delete_at : ObjId → World → Pairs → ℕ → Option ℕ → Costing (Value × World)
-delete_at dict world pairs changes None = raises KeyError
-delete_at dict world pairs changes (Some at) = delete_from dict world pairs changes at (slice_get pairs at)
+abbrev pub taken_pair : Pairs → ℕ → ℕ → Option (Value × Value) → Costing (Value × Object)
+taken_pair pairs changes at None = raises KeyError
+taken_pair pairs changes at (Some pair) = done (pair.1, object.Dict (remove pairs at) (one_change_more changes))
 
-abbrev pub dict_delete : ObjId → Value → Change Value
-dict_delete dict key world = let held = pairs world dict in
-    costs (key_cost key + length held) (for_key (as_key world key)
-    (delete_at dict world held (key_changes_of (object_at world dict)) (key_place key held)))
+abbrev pub delete_at : Pairs → ℕ → Option ℕ → Costing (Value × Object)
+delete_at pairs changes None = raises KeyError
+delete_at pairs changes (Some at) = taken_pair pairs changes at (slice_get pairs at)
 
-abbrev pub all_as_keys : World → Pairs → Op (Unit {0})
-all_as_keys world pairs = all_keys (map (λ pair. as_key world pair.0) pairs)
+abbrev pub delete_pair : Value → Change Object Value
+delete_pair key (object.Dict pairs changes) = delete_at pairs changes (key_place key pairs)
+delete_pair key other = raises KeyError
+
+abbrev pub dict_delete : ObjId → Value → Change World Value
+dict_delete dict key world = costs (key_cost key + length (pairs world dict)) (for_key (as_key world key) (on_object dict (delete_pair key) world))
 
 abbrev pub put_all : Pairs → Object → Object
 put_all [] dict = dict
-put_all (pair ∷ pairs) dict = put_all pairs (put_in pair.0 pair.1 dict)
+put_all (pair ∷ pairs) dict = put_all pairs (put_pair pair.0 pair.1 dict)
 
 -- All keys are paid for at once; then the first that is none raises or leaves; then the pairs are put in order.
-abbrev pub make_dict : Pairs → Change ObjId
-make_dict pairs world = costs (sum (map (λ pair. key_cost pair.0) pairs)) (for_key (all_as_keys world pairs)
+abbrev pub make_dict : Pairs → Change World ObjId
+make_dict pairs world = costs (sum (map (λ pair. key_cost pair.0) pairs)) (for_key (all_keys (map (λ pair. as_key world pair.0) pairs))
     (done (made (put_all pairs (object.Dict [] 0)) world)))
 
 -- Instances.
@@ -173,62 +173,27 @@ attribute_place name attributes = position (λ attribute. bytes_eq attribute.0 n
 abbrev pub attr_get : ObjId → List ℕ → World → Option Value
 attr_get instance name world = let held = attributes world instance in option_map (λ attribute. attribute.1) (at_place held (attribute_place name held))
 
-abbrev with_attribute : List ℕ → Value → Attributes → Option ℕ → Attributes
+abbrev pub with_attribute : List ℕ → Value → Attributes → Option ℕ → Attributes
 with_attribute name new attributes None = attributes ++ (name, new) ∷ []
 with_attribute name new attributes (Some at) = with_second attributes at new
 
-abbrev set_in : List ℕ → Value → Object → Object
-set_in name new (object.Instance class attributes args) = object.Instance class (with_attribute name new attributes (attribute_place name attributes)) args
-set_in name new other = other
-
 -- An attribute keeps the place at which it was first set.
-abbrev pub attr_set : ObjId → List ℕ → Value → World → World
-attr_set instance name new world = with_object world instance (set_in name new (object_at world instance))
+abbrev pub set_attribute : List ℕ → Value → Object → Object
+set_attribute name new (object.Instance class attributes args) = object.Instance class (with_attribute name new attributes (attribute_place name attributes)) args
+set_attribute name new other = other
 
-abbrev args_in : List Value → Object → Object
-args_in args (object.Instance class attributes old) = object.Instance class attributes (Some args)
-args_in args other = other
+abbrev pub attr_set : ObjId → List ℕ → Value → World → World
+attr_set instance name new world = with_object world instance (set_attribute name new (object_at world instance))
+
+abbrev pub with_args : List Value → Object → Object
+with_args args (object.Instance class attributes old) = object.Instance class attributes (Some args)
+with_args args other = other
 
 abbrev pub set_args : ObjId → List Value → World → World
-set_args instance args world = with_object world instance (args_in args (object_at world instance))
-
--- Sums (the manual, "Common Sequence Operations").
-
-abbrev joined_strings : List ℕ → World → Costing (Value × World)
-joined_strings joined world = costs (length joined) (done (value.Str joined, world))
-
-abbrev joined_tuples : List Value → World → Costing (Value × World)
-joined_tuples joined world = costs (length joined) (done (value.Tuple joined, world))
-
-abbrev a_new_list : ObjId × World → Value × World
-a_new_list made = (value.Ref made.0, made.1)
-
-abbrev joined_objects : Object → Object → World → Costing (Value × World)
-joined_objects (object.List xs) (object.List ys) world = costs (length (xs ++ ys)) (done (a_new_list (made (object.List (xs ++ ys)) world)))
-joined_objects _ _ world = raises TypeError
-
-abbrev pub in_machine_range : Option ℤ → World → Costing (Value × World)
-in_machine_range None world = leaves construct.IntegerRange
-in_machine_range (Some n) world = done (value.Int n, world)
-
-abbrev added_numbers : Option ℤ → Option ℤ → World → Costing (Value × World)
-added_numbers (Some a) (Some b) world = in_machine_range (in_range (a +ℤ b)) world
-added_numbers _ _ world = raises TypeError
-
-abbrev pub add_by : Value-F Value → Value-F Value → Change Value
-add_by (Value-F.View x) b world = leaves construct.View
-add_by a (Value-F.View y) world = leaves construct.View
-add_by (Value-F.Str s) (Value-F.Str t) world = joined_strings (s ++ t) world
-add_by (Value-F.Tuple xs) (Value-F.Tuple ys) world = joined_tuples (xs ++ ys) world
-add_by (Value-F.Ref i) (Value-F.Ref j) world = joined_objects (object_at world i) (object_at world j) world
-add_by a b world = added_numbers (number_of a) (number_of b) world
-
--- Integers are added; strings, tuples and lists are joined, lists to a new one, a step for each element of the result.
-abbrev pub add : Value → Value → Change Value
-add a b world = add_by (out-Value a) (out-Value b) world
+set_args instance args world = with_object world instance (with_args args (object_at world instance))
 
 -- Clearing a dict that wasn't empty is one change of its keys.
-abbrev cleared_keys : Pairs → ℕ → ℕ
+abbrev pub cleared_keys : Pairs → ℕ → ℕ
 cleared_keys [] changes = changes
 cleared_keys (pair ∷ pairs) changes = one_change_more changes
 

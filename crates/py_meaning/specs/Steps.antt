@@ -35,6 +35,22 @@ infixl 1 ◌>>=◌
 abbrev pub ◌>>=◌ : {A B : Type 0} → Costing A → (A → Costing B) → Costing B
 run >>= next = λ left. go_on (run left).0 (run left).1 next
 
+-- An operation on what may change (a world, an object): it costs steps, and where it is done gives an answer and
+-- what there is after it.
+abbrev pub Change : Type 0 → Type 0 → Type 0
+Change S A = S → Costing (A × S)
+
+abbrev pub settle : {S A : Type 0} → S → Op (A × S) → ℕ → Op A × S × ℕ
+settle s (op.Done made) left = (op.Done made.0, made.1, left)
+settle s (op.Raises class) left = (op.Raises class, s, left)
+settle s (op.Leaves construct) left = (op.Leaves construct, s, left)
+settle s op.OutOfSteps left = (op.OutOfSteps, s, left)
+settle s op.Memory left = (op.Memory, s, left)
+
+-- Its answer, what there is after it, and the steps left. After any answer but what is done all is as it was.
+abbrev pub changes : {S A : Type 0} → Change S A → S → ℕ → Op A × S × ℕ
+changes change s left = settle s (change s left).0 (change s left).1
+
 -- a fact about an answer, but for want of memory, of which nothing is said
 abbrev pub UnlessMemory : {A : Type 0} → Op A → Type 0 → Type 0
 UnlessMemory (op.Done a) P = P

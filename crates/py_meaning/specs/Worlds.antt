@@ -1,5 +1,5 @@
 -- Worlds: objects in the order in which they were made.
-use Rattle.std.specs.Prelude.{ℕ, ◌-◌, ◌^◌, ℤ, pos, negsuc, ◌-ℤ◌, int_le, Bool, true, false, ◌&&◌, ◌==◌, not, nat_lt, nat_le, List, [], ◌∷◌, ◌++◌, length, map, slice_index_or, slice_set, Option, Some, None}
+use Rattle.std.specs.Prelude.{ℕ, ◌-◌, ◌^◌, ℤ, pos, negsuc, ◌-ℤ◌, int_le, Bool, true, false, ◌&&◌, ◌==◌, not, nat_lt, nat_le, List, [], ◌∷◌, ◌++◌, length, map, slice_get, slice_index_or, slice_set, Option, Some, None}
 use Rattle.std.specs.List.{list_all}
 use Rattle.std.specs.Ordering.{int_eq}
 use Rattle.pyn_base.specs.declared.class.ClassId.{ClassId}
@@ -23,8 +23,12 @@ abbrev pub Attributes : Type 0
 Attributes = List (Name × Value)
 
 -- The object that a reference names. One that names nothing, which no sound value does, reads as an empty list.
+abbrev pub or_nothing : Option Object → Object
+or_nothing None = object.List []
+or_nothing (Some found) = found
+
 abbrev pub object_at : World → ObjId → Object
-object_at world id = slice_index_or world id.0 (object.List [])
+object_at world id = or_nothing (slice_get world id.0)
 
 abbrev pub elements_of : Object → List Value
 elements_of (object.List items) = items

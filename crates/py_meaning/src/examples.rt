@@ -1,9 +1,9 @@
 // Worked examples of the words, by which a reader can see that they mean what the manual says.
 ghost use Rattle.std.specs.Prelude.{◌≡◌, pos, negsuc, true, false, [], ◌∷◌, Some, None, codes};
-ghost use Rattle.py_meaning.specs.Steps.{costs};
+ghost use Rattle.py_meaning.specs.Steps.{changes};
 ghost use Rattle.py_meaning.specs.Equal.{equal};
 ghost use Rattle.py_meaning.specs.Values.{depth};
-ghost use Rattle.py_meaning.specs.Operations.{changes, dict_put};
+ghost use Rattle.py_meaning.specs.Operations.{dict_put};
 ghost use Rattle.py_meaning.specs.declared.value.Value.TheVariants as value;
 ghost use Rattle.py_meaning.specs.declared.object.Object.TheVariants as object;
 ghost use Rattle.py_meaning.specs.declared.op.Op.TheVariants as op;

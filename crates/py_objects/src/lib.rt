@@ -1,0 +1,16 @@
+//! The table of objects, and what its calls do to it.
+//!
+//! A contract sees a table as its list of objects. Each call is one statement: its answer, the list after it and
+//! the steps left are the definition's function of the list before it. After any answer but `Done` the list is as
+//! it was. The layer above uses nothing else of it, so that objects may stand otherwise one day. It must never
+//! know of frames, trees or text.
+//!
+//! It stands on `py_meaning`, which has the words, and on `pyn_base`.
+#![tactic(auto)]
+
+mod lists;
+mod objects;
+mod places;
+
+pub use objects::Objects;
+pub use py_meaning::{ObjKind, Object, Op, Order, PyStr, PyTuple, Sequence, Shared, Value, View};

@@ -1,6 +1,6 @@
 -- What each call of a table of objects does to the world, one function a call.
-use Rattle.std.specs.Prelude.{ℕ, ◌+◌, ◌-◌, min, ℤ, pos, negsuc, ◌+ℤ◌, nat_lt, if◌then◌else◌, bytes_eq, List, [], ◌∷◌, ◌++◌, length, map, sum, slice_get, slice_set, remove, Option, Some, None}
-use Rattle.std.specs.List.{position, insert}
+use Rattle.std.specs.Prelude.{ℕ, ◌+◌, ◌-◌, min, ℤ, pos, negsuc, ◌+ℤ◌, nat_lt, if◌then◌else◌, bytes_eq, List, [], ◌∷◌, ◌++◌, length, map, slice_get, slice_set, remove, Option, Some, None}
+use Rattle.std.specs.List.{position, insert, sum_by}
 use Rattle.std.specs.Option.{option_map}
 use Rattle.pyn_base.specs.Int.{in_range}
 use Rattle.pyn_base.specs.declared.class.BuiltClass.TheVariants.{TypeError, IndexError, KeyError}
@@ -158,7 +158,7 @@ put_all (pair ∷ pairs) dict = put_all pairs (put_pair pair.0 pair.1 dict)
 
 -- All keys are paid for at once; then the first that is none raises or leaves; then the pairs are put in order.
 abbrev pub make_dict : Pairs → Change World ObjId
-make_dict pairs world = costs (sum (map (λ pair. key_cost pair.0) pairs)) (for_key (all_keys (map (λ pair. as_key world pair.0) pairs))
+make_dict pairs world = costs (sum_by (λ pair. key_cost pair.0) pairs) (for_key (all_keys (map (λ pair. as_key world pair.0) pairs))
     (done (made (put_all pairs (object.Dict [] 0)) world)))
 
 -- Instances.

@@ -8,9 +8,11 @@
 //! It stands on `py_meaning`, which has the words, and on `pyn_base`.
 #![tactic(auto)]
 
+mod keys;
 mod lists;
 mod objects;
 mod places;
+mod same;
 
 pub use objects::Objects;
 pub use py_meaning::{ObjKind, Object, Op, Order, PyStr, PyTuple, Sequence, Shared, Value, View};

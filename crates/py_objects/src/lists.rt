@@ -48,6 +48,39 @@ impl Objects {
         self.put(list, object);
         answer
     }
+
+    /// Puts an item before the one at an index, at a step for each item and one more.
+    pub fn list_insert(&mut self, list: ObjId, at: PyInt, value: Value, fuel: &mut Fuel) -> Op<()>
+        ensures meant { UnlessMemory result (changes (list_insert list at value) self.old fuel.old ≡ (result, self.new, fuel.new)) }
+        ensures unchanged { UnlessDone result (self.new ≡ self.old) }
+    {
+        let mut object = self.take(list);
+        let answer = insert_item(&mut object, at, value, fuel);
+        self.put(list, object);
+        answer
+    }
+
+    /// Takes an item out, at a step for each item. An index out of range raises IndexError.
+    pub fn list_remove(&mut self, list: ObjId, at: PyInt, fuel: &mut Fuel) -> Op<Value>
+        ensures meant { UnlessMemory result (changes (list_remove list at) self.old fuel.old ≡ (result, self.new, fuel.new)) }
+        ensures unchanged { UnlessDone result (self.new ≡ self.old) }
+    {
+        let mut object = self.take(list);
+        let answer = remove_item(&mut object, at, fuel);
+        self.put(list, object);
+        answer
+    }
+
+    /// Puts items at the end, at a step for each.
+    pub fn list_extend(&mut self, list: ObjId, items: &[Value], fuel: &mut Fuel) -> Op<()>
+        ensures meant { UnlessMemory result (changes (list_extend list items.now) self.old fuel.old ≡ (result, self.new, fuel.new)) }
+        ensures unchanged { UnlessDone result (self.new ≡ self.old) }
+    {
+        let mut object = self.take(list);
+        let answer = extend_items(self.alloc, &mut object, items, fuel);
+        self.put(list, object);
+        answer
+    }
 }
 
 fn set_item(object: &mut Object, at: PyInt, value: Value) -> Op<()>
@@ -69,5 +102,66 @@ fn set_item(object: &mut Object, at: PyInt, value: Value) -> Op<()>
             drop(value);
             Op::Raises(BuiltClass::IndexError)
         }
+    }
+}
+
+fn insert_item(object: &mut Object, at: PyInt, value: Value, fuel: &mut Fuel) -> Op<()>
+    ensures meant { UnlessMemory result (changes (insert_item at value) object.old fuel.old ≡ (result, object.new, fuel.new)) }
+    ensures unchanged { UnlessDone result (object.new ≡ object.old) }
+{
+    match object {
+        Object::List(items) => {
+            if !fuel.take(items.len() as u64 + 1) {
+                drop(value);
+                return Op::OutOfSteps;
+            }
+            match items.insert(insert_place(at, items.len()), value) {
+                Ok(()) => Op::Done(()),
+                Err(Memory) => Op::Memory,
+            }
+        }
+        _ => {
+            drop(value);
+            Op::Done(())
+        }
+    }
+}
+
+fn remove_item(object: &mut Object, at: PyInt, fuel: &mut Fuel) -> Op<Value>
+    ensures meant { UnlessMemory result (changes (remove_item at) object.old fuel.old ≡ (result, object.new, fuel.new)) }
+    ensures unchanged { UnlessDone result (object.new ≡ object.old) }
+{
+    match object {
+        Object::List(items) => {
+            if !fuel.take(items.len() as u64) {
+                return Op::OutOfSteps;
+            }
+            match index_place(at, items.len()) {
+                Some(place) => Op::Done(items.remove(place)),
+                None => Op::Raises(BuiltClass::IndexError),
+            }
+        }
+        _ => Op::Raises(BuiltClass::IndexError),
+    }
+}
+
+fn extend_items(alloc: Global, object: &mut Object, more: &[Value], fuel: &mut Fuel) -> Op<()>
+    ensures meant { UnlessMemory result (changes (extend_items more.now) object.old fuel.old ≡ (result, object.new, fuel.new)) }
+    ensures unchanged { UnlessDone result (object.new ≡ object.old) }
+{
+    match object {
+        Object::List(items) => {
+            if !fuel.take(more.len() as u64) {
+                return Op::OutOfSteps;
+            }
+            match shared_all(alloc, more) {
+                Ok(more) => match items.append(more) {
+                    Ok(()) => Op::Done(()),
+                    Err(Memory) => Op::Memory,
+                },
+                Err(Memory) => Op::Memory,
+            }
+        }
+        _ => Op::Done(()),
     }
 }

@@ -1,6 +1,6 @@
 -- A change of one object, as a change of the world.
 use Rattle.std.proofs.Common.{◌≡◌, ℕ, zero, suc, List, [], ◌∷◌, ap, refl, sym, ◌∙◌}
-use Rattle.std.specs.Prelude.{slice_get, slice_set}
+use Rattle.std.specs.Prelude.{slice_get, slice_set, Result, Ok, Err, OnOk, OnErr}
 use Rattle.pyn_base.specs.declared.ids.ObjId.{ObjId}
 use Rattle.py_meaning.specs.declared.object.Object.{Object}
 use Rattle.py_meaning.specs.declared.object.Object.TheVariants as object
@@ -75,3 +75,11 @@ module _ (id : ObjId) (world taken after : World) (held held' : Object) (was : h
 
   pub unwritten : {A : Type 0} (answer : Op A) → UnlessDone answer (held' ≡ held) → UnlessDone answer (after ≡ world)
   unwritten answer = unless_done answer stays
+
+  pub rewritten : {E : Type 0} (f : Object → Object) (answer : Result (Unit {0}) E) → OnOk answer (held' ≡ f held) → OnOk answer (after ≡ with_object world id (f (object_at world id)))
+  rewritten f (Ok a) e = put_back ∙ ap (with_object world id) (e ∙ ap f was)
+  rewritten f (Err a) e = tt
+
+  pub not_rewritten : {E : Type 0} (answer : Result (Unit {0}) E) → OnErr answer (held' ≡ held) → OnErr answer (after ≡ world)
+  not_rewritten (Ok a) e = tt
+  not_rewritten (Err a) e = stays e

@@ -8,6 +8,7 @@
 //! It stands on `py_meaning`, which has the words, and on `pyn_base`.
 #![tactic(auto)]
 
+mod dicts;
 mod keys;
 mod lists;
 mod objects;

@@ -1,0 +1,170 @@
+// Dicts: made, looked up, written and shortened. A key's cost comes first, also where it is no key.
+ghost use Rattle.std.specs.Prelude.{◌≡◌, ℕ, ◌+◌, ◌-◌, nat_le, if◌then◌else◌, length, OnOk, OnErr};
+ghost use Rattle.std.specs.Option.{option_copied};
+ghost use Rattle.py_meaning.specs.Steps.{changes, UnlessMemory, UnlessDone};
+ghost use Rattle.py_meaning.specs.Keys.{key_cost, value_of_key};
+ghost use Rattle.py_meaning.specs.Worlds.{object_at, with_object};
+ghost use Rattle.py_meaning.specs.Operations.{dict_get, dict_put, dict_delete, put_pair, delete_pair, on_object};
+
+use crate::keys::{key_cost_within, key_place, pay_key};
+use crate::{Object, Objects, Op, Value};
+use pyn_base::{BuiltClass, Fuel, Memory, ObjId};
+
+impl Objects {
+    /// The value of a key. A missing key raises KeyError.
+    pub fn dict_get(&self, dict: ObjId, key: &Value, fuel: &mut Fuel) -> Op<Value>
+        ensures { UnlessMemory result (dict_get dict key.now self.now fuel.old ≡ (result, fuel.new)) }
+    {
+        if !pay_key(key, fuel) {
+            return Op::OutOfSteps;
+        }
+        match self.as_key(key) {
+            Op::Done(()) => match value_of_key(key, self.pairs(dict)) {
+                Some(value) => match value.share() {
+                    Ok(value) => Op::Done(value),
+                    Err(Memory) => Op::Memory,
+                },
+                None => Op::Raises(BuiltClass::KeyError),
+            },
+            Op::Raises(class) => Op::Raises(class),
+            Op::Leaves(construct) => Op::Leaves(construct),
+            Op::OutOfSteps => Op::OutOfSteps,
+            Op::Memory => Op::Memory,
+        }
+    }
+
+    /// Puts a value under a key.
+    pub fn dict_put(
+        &mut self,
+        dict: ObjId,
+        key: Value,
+        value: Value,
+        fuel: &mut Fuel,
+    ) -> Op<()>
+        ensures meant { UnlessMemory result (changes (dict_put dict key value) self.old fuel.old ≡ (result, self.new, fuel.new)) }
+        ensures unchanged { UnlessDone result (self.new ≡ self.old) }
+    {
+        if !pay_key(&key, fuel) {
+            drop(key);
+            drop(value);
+            return Op::OutOfSteps;
+        }
+        match self.as_key(&key) {
+            Op::Done(()) => match self.put_pair(dict, key, value) {
+                Ok(()) => Op::Done(()),
+                Err(Memory) => Op::Memory,
+            },
+            fault => {
+                drop(key);
+                drop(value);
+                fault
+            }
+        }
+    }
+
+    /// Takes a key's pair out and gives its value, at the key's cost and a step for each pair. A missing key raises KeyError.
+    pub fn dict_delete(&mut self, dict: ObjId, key: &Value, fuel: &mut Fuel) -> Op<Value>
+        ensures meant { UnlessMemory result (changes (dict_delete dict key.now) self.old fuel.old ≡ (result, self.new, fuel.new)) }
+        ensures unchanged { UnlessDone result (self.new ≡ self.old) }
+    {
+        if !pay_deletion(key, self.pairs(dict), fuel) {
+            return Op::OutOfSteps;
+        }
+        match self.as_key(key) {
+            Op::Done(()) => self.delete_pair(dict, key),
+            Op::Raises(class) => Op::Raises(class),
+            Op::Leaves(construct) => Op::Leaves(construct),
+            Op::OutOfSteps => Op::OutOfSteps,
+            Op::Memory => Op::Memory,
+        }
+    }
+
+    /// Puts a value under what is a key.
+    fn put_pair(&mut self, dict: ObjId, key: Value, value: Value) -> Result<(), Memory>
+        ensures ok { OnOk result (self.new ≡ with_object self.old dict (put_pair key value (object_at self.old dict))) }
+        ensures err { OnErr result (self.new ≡ self.old) }
+    {
+        let mut object = self.take(dict);
+        let answer = put_pair(&mut object, key, value);
+        self.put(dict, object);
+        answer
+    }
+
+    /// Takes out the pair of what is a key.
+    fn delete_pair(&mut self, dict: ObjId, key: &Value) -> Op<Value>
+        ensures meant { UnlessMemory result ((left : ℕ) → changes (on_object dict (delete_pair key.now)) self.old left ≡ (result, self.new, left)) }
+        ensures unchanged { UnlessDone result (self.new ≡ self.old) }
+    {
+        let mut object = self.take(dict);
+        let answer = delete_pair(&mut object, key);
+        self.put(dict, object);
+        answer
+    }
+}
+
+/// Takes what a deletion costs, or nothing where fewer steps are left.
+fn pay_deletion(key: &Value, pairs: &[(Value, Value)], fuel: &mut Fuel) -> bool
+    ensures enough { result ≡ nat_le (key_cost key.now + length pairs.now) fuel.old }
+    ensures left { fuel.new ≡ (if nat_le (key_cost key.now + length pairs.now) fuel.old then fuel.old - (key_cost key.now + length pairs.now) else fuel.old) }
+{
+    match key_cost_within(key, fuel.left()) {
+        Some(cost) => fuel.take(cost as u64 + pairs.len() as u64),
+        None => false,
+    }
+}
+
+fn delete_pair(object: &mut Object, key: &Value) -> Op<Value>
+    ensures meant { UnlessMemory result ((left : ℕ) → changes (delete_pair key.now) object.old left ≡ (result, object.new, left)) }
+    ensures unchanged { UnlessDone result (object.new ≡ object.old) }
+{
+    match object {
+        Object::Dict(pairs, changes) => match key_place(key, pairs.as_slice()) {
+            Some(place) if place < pairs.len() => {
+                let (key, value) = pairs.remove(place);
+                drop(key);
+                *changes = changes.saturating_add(1);
+                Op::Done(value)
+            }
+            _ => Op::Raises(BuiltClass::KeyError),
+        },
+        _ => Op::Raises(BuiltClass::KeyError),
+    }
+}
+
+fn value_of_key<'a>(key: &Value, pairs: &'a [(Value, Value)]) -> Option<&'a Value>
+    ensures { option_copied result ≡ value_of_key key.now pairs.now }
+{
+    match key_place(key, pairs) {
+        Some(place) => match pairs.get(place) {
+            Some((_, value)) => Some(value),
+            None => None,
+        },
+        None => None,
+    }
+}
+
+/// Puts a pair into a dict; of another object nothing is done.
+pub(crate) fn put_pair(object: &mut Object, key: Value, value: Value) -> Result<(), Memory>
+    ensures ok { OnOk result (object.new ≡ put_pair key value object.old) }
+    ensures err { OnErr result (object.new ≡ object.old) }
+{
+    match object {
+        Object::Dict(pairs, changes) => match key_place(&key, pairs.as_slice()) {
+            Some(place) => {
+                drop(key);
+                pairs.set_second(place, value);
+                Ok(())
+            }
+            None => {
+                pairs.push((key, value))?;
+                *changes = changes.saturating_add(1);
+                Ok(())
+            }
+        },
+        _ => {
+            drop(key);
+            drop(value);
+            Ok(())
+        }
+    }
+}

@@ -9,6 +9,8 @@
 #![tactic(auto)]
 
 mod dicts;
+mod displays;
+mod instances;
 mod keys;
 mod lists;
 mod objects;

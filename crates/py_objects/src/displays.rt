@@ -1,0 +1,95 @@
+// A new dict from pairs.
+ghost use Rattle.std.specs.Prelude.{◌≡◌, ◌-◌, nat_le, if◌then◌else◌, [], map, IfOk, OnErr};
+ghost use Rattle.std.specs.List.{sum_by};
+ghost use Rattle.py_meaning.specs.Steps.{changes, UnlessMemory, UnlessDone};
+ghost use Rattle.py_meaning.specs.Keys.{key_cost, as_key, all_keys};
+ghost use Rattle.py_meaning.specs.Operations.{made, put_all, make_dict};
+ghost use Rattle.py_objects.specs.Within.{within};
+
+use crate::dicts::put_pair;
+use crate::keys::key_cost_within;
+use crate::{Object, Objects, Op, Sequence, Value};
+use pyn_base::{Fuel, Memory, ObjId};
+use std::alloc::Global;
+
+impl Objects {
+    /// A new dict. All keys are paid for at once; then the first that is none raises or leaves; then the pairs are
+    /// put in order.
+    pub fn make_dict(&mut self, pairs: &[(Value, Value)], fuel: &mut Fuel) -> Op<ObjId>
+        ensures meant { UnlessMemory result (changes (make_dict pairs.now) self.old fuel.old ≡ (result, self.new, fuel.new)) }
+        ensures unchanged { UnlessDone result (self.new ≡ self.old) }
+    {
+        if !pay_keys(pairs, fuel) {
+            return Op::OutOfSteps;
+        }
+        match self.are_keys(pairs) {
+            Op::Done(()) => match self.add_dict(pairs) {
+                Ok(id) => Op::Done(id),
+                Err(Memory) => Op::Memory,
+            },
+            Op::Raises(class) => Op::Raises(class),
+            Op::Leaves(construct) => Op::Leaves(construct),
+            Op::OutOfSteps => Op::OutOfSteps,
+            Op::Memory => Op::Memory,
+        }
+    }
+
+    fn add_dict(&mut self, pairs: &[(Value, Value)]) -> Result<ObjId, Memory>
+        ensures ok { IfOk result (λ id. made (put_all pairs.now (Object.Dict [] 0)) self.old ≡ (id, self.new)) }
+        ensures err { OnErr result (self.new ≡ self.old) }
+    {
+        let dict = dict_of(self.alloc, pairs)?;
+        self.make(dict)
+    }
+
+    /// What the first key answers that is none.
+    fn are_keys(&self, pairs: &[(Value, Value)]) -> Op<()>
+        ensures { result ≡ all_keys (map (λ pair. as_key self.now pair.0) pairs.now) }
+    {
+        for pair in pairs {
+            match self.as_key(&pair.0) {
+                Op::Done(()) => {}
+                Op::Raises(class) => return Op::Raises(class),
+                Op::Leaves(construct) => return Op::Leaves(construct),
+                Op::OutOfSteps => return Op::OutOfSteps,
+                Op::Memory => return Op::Memory,
+            }
+        }
+        Op::Done(())
+    }
+}
+
+fn dict_of(alloc: Global, pairs: &[(Value, Value)]) -> Result<Object, Memory>
+    ensures { IfOk result (λ dict. dict ≡ put_all pairs.now (Object.Dict [] 0)) }
+{
+    let mut dict = Object::Dict(Sequence::new(alloc), 0);
+    for pair in pairs {
+        put_pair(&mut dict, pair.0.share()?, pair.1.share()?)?;
+    }
+    Ok(dict)
+}
+
+/// What all keys cost, unless that is above the limit.
+fn keys_cost_within(pairs: &[(Value, Value)], limit: u32) -> Option<u32>
+    ensures { result ≡ within (sum_by (λ pair. key_cost pair.0) pairs.now) limit }
+{
+    let mut cost = 0;
+    for pair in pairs {
+        match key_cost_within(&pair.0, limit - cost) {
+            Some(more) => cost += more,
+            None => return None,
+        }
+    }
+    Some(cost)
+}
+
+/// Takes what all keys cost, or nothing where fewer steps are left.
+fn pay_keys(pairs: &[(Value, Value)], fuel: &mut Fuel) -> bool
+    ensures enough { result ≡ nat_le (sum_by (λ pair. key_cost pair.0) pairs.now) fuel.old }
+    ensures left { fuel.new ≡ (if nat_le (sum_by (λ pair. key_cost pair.0) pairs.now) fuel.old then fuel.old - sum_by (λ pair. key_cost pair.0) pairs.now else fuel.old) }
+{
+    match keys_cost_within(pairs, fuel.left()) {
+        Some(cost) => fuel.take(cost as u64),
+        None => false,
+    }
+}

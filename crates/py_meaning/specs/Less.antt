@@ -44,10 +44,14 @@ ordered_by world order parts (Value-F.Tuple xs) (Value-F.Tuple ys) = parts xs ys
 ordered_by world order parts (Value-F.Ref i) (Value-F.Ref j) = ordered_objects parts (object_at world i) (object_at world j)
 ordered_by world order parts a b = ordered_numbers order (number_of a) (number_of b)
 
--- an ordering, where so many levels of parts may still be compared
+-- how parts are ordered where so many levels of them may still be
+abbrev pub order_within : ℕ → World → Order → List Value → List Value → Costing Bool
+order_within zero world order xs ys = leaves construct.ComparisonDepth
+order_within (suc levels) world order xs ys = ordered_parts order (equal_within levels world)
+    (λ a b. ordered_by world order (order_within levels world order) (out-Value a) (out-Value b)) xs ys
+
 abbrev pub ordered_within : ℕ → World → Order → Value → Value → Costing Bool
-ordered_within zero world order a b = ordered_by world order (λ xs ys. leaves construct.ComparisonDepth) (out-Value a) (out-Value b)
-ordered_within (suc levels) world order a b = ordered_by world order (ordered_parts order (equal_within levels world) (ordered_within levels world order)) (out-Value a) (out-Value b)
+ordered_within levels world order a b = ordered_by world order (order_within levels world order) (out-Value a) (out-Value b)
 
 unfoldable pub ordered : World → Order → Value → Value → Costing Bool
 ordered world order a b = ordered_within comparison_limit world order a b

@@ -1,3 +1,4 @@
 pub mod Writes
 pub mod Costs
 pub mod Fronts
+pub mod Depths

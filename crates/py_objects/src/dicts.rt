@@ -131,7 +131,7 @@ fn delete_pair(object: &mut Object, key: &Value) -> Op<Value>
     }
 }
 
-fn value_of_key<'a>(key: &Value, pairs: &'a [(Value, Value)]) -> Option<&'a Value>
+pub(crate) fn value_of_key<'a>(key: &Value, pairs: &'a [(Value, Value)]) -> Option<&'a Value>
     ensures { option_copied result ≡ value_of_key key.now pairs.now }
 {
     match key_place(key, pairs) {

@@ -10,6 +10,7 @@
 
 mod dicts;
 mod displays;
+mod equal;
 mod instances;
 mod keys;
 mod lists;

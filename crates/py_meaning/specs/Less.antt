@@ -1,17 +1,18 @@
 -- The orderings (Language Reference 6.10.1) and what they cost.
-use Rattle.std.specs.Prelude.{ℕ, zero, suc, min, ℤ, Bool, true, false, if◌then◌else◌, List, [], ◌∷◌, length, Option, Some, None}
+use Rattle.std.specs.Prelude.{ℕ, zero, suc, min, ℤ, Bool, true, false, if◌then◌else◌, ◌||◌, List, [], ◌∷◌, length, Option, Some, None}
 use Rattle.std.specs.declared.cmp.Ordering.{Ordering}
 use Rattle.std.specs.Ordering.{is_lt, is_gt, is_le, is_ge, nat_cmp, int_cmp}
 use Rattle.std.specs.Cmp.Lexicographic.{slice_cmp}
 use Rattle.pyn_base.specs.declared.class.BuiltClass.TheVariants.{TypeError}
 use Rattle.pyn_base.specs.declared.construct.Construct.TheVariants as construct
+use Rattle.pyn_base.specs.declared.ids.ObjId.{ObjId}
 use Rattle.py_meaning.specs.declared.object.Object.{Object}
 use Rattle.py_meaning.specs.declared.object.Object.TheVariants as object
 use Rattle.py_meaning.specs.declared.order.Order.{Order}
 use Rattle.py_meaning.specs.declared.order.Order.TheVariants.{Less, Greater, AtMost, AtLeast}
 use Rattle.py_meaning.specs.declared.value.Value.{Value, Value-F, out-Value}
 use Rattle.py_meaning.specs.Steps.{Costing, done, raises, leaves, costs, ◌>>=◌}
-use Rattle.py_meaning.specs.Values.{number_of}
+use Rattle.py_meaning.specs.Values.{number_of, is_view}
 use Rattle.py_meaning.specs.Worlds.{World, object_at}
 use Rattle.py_meaning.specs.Equal.{equal_within, comparison_limit}
 
@@ -35,14 +36,23 @@ abbrev pub ordered_objects : (List Value → List Value → Costing Bool) → Ob
 ordered_objects parts (object.List xs) (object.List ys) = parts xs ys
 ordered_objects parts _ _ = raises TypeError
 
--- Strings by code point, at the shorter one's length. Views have no order here; other kinds raise.
+-- strings by code point, at the shorter one's length
+abbrev pub ordered_texts : Order → List ℕ → List ℕ → Costing Bool
+ordered_texts order s t = costs (min (length s) (length t)) (done (holds order (slice_cmp nat_cmp s t)))
+
+abbrev pub ordered_refs : World → (List Value → List Value → Costing Bool) → ObjId → ObjId → Costing Bool
+ordered_refs world parts i j = ordered_objects parts (object_at world i) (object_at world j)
+
+-- other kinds raise
+abbrev pub ordered_values : World → Order → (List Value → List Value → Costing Bool) → Value-F Value → Value-F Value → Costing Bool
+ordered_values world order parts (Value-F.Str s) (Value-F.Str t) = ordered_texts order s t
+ordered_values world order parts (Value-F.Tuple xs) (Value-F.Tuple ys) = parts xs ys
+ordered_values world order parts (Value-F.Ref i) (Value-F.Ref j) = ordered_refs world parts i j
+ordered_values world order parts a b = ordered_numbers order (number_of a) (number_of b)
+
+-- Views have no order.
 abbrev pub ordered_by : World → Order → (List Value → List Value → Costing Bool) → Value-F Value → Value-F Value → Costing Bool
-ordered_by world order parts (Value-F.View x) b = leaves construct.View
-ordered_by world order parts a (Value-F.View y) = leaves construct.View
-ordered_by world order parts (Value-F.Str s) (Value-F.Str t) = costs (min (length s) (length t)) (done (holds order (slice_cmp nat_cmp s t)))
-ordered_by world order parts (Value-F.Tuple xs) (Value-F.Tuple ys) = parts xs ys
-ordered_by world order parts (Value-F.Ref i) (Value-F.Ref j) = ordered_objects parts (object_at world i) (object_at world j)
-ordered_by world order parts a b = ordered_numbers order (number_of a) (number_of b)
+ordered_by world order parts a b = if is_view a || is_view b then leaves construct.View else ordered_values world order parts a b
 
 -- how parts are ordered where so many levels of them may still be
 abbrev pub order_within : ℕ → World → Order → List Value → List Value → Costing Bool

@@ -1,5 +1,5 @@
 -- What `+` gives (the manual, "Common Sequence Operations"; Language Reference 6.7).
-use Rattle.std.specs.Prelude.{ℕ, ℤ, ◌+ℤ◌, List, ◌++◌, length, Option, Some, None}
+use Rattle.std.specs.Prelude.{ℕ, ℤ, ◌+ℤ◌, if◌then◌else◌, ◌||◌, List, ◌++◌, length, Option, Some, None}
 use Rattle.pyn_base.specs.Int.{in_range}
 use Rattle.pyn_base.specs.declared.class.BuiltClass.TheVariants.{TypeError}
 use Rattle.pyn_base.specs.declared.construct.Construct.TheVariants as construct
@@ -9,7 +9,7 @@ use Rattle.py_meaning.specs.declared.object.Object.TheVariants as object
 use Rattle.py_meaning.specs.declared.value.Value.{Value, Value-F, out-Value}
 use Rattle.py_meaning.specs.declared.value.Value.TheVariants as value
 use Rattle.py_meaning.specs.Steps.{Costing, Change, done, raises, leaves, costs}
-use Rattle.py_meaning.specs.Values.{number_of}
+use Rattle.py_meaning.specs.Values.{number_of, is_view}
 use Rattle.py_meaning.specs.Worlds.{World, object_at}
 use Rattle.py_meaning.specs.Operations.{made}
 
@@ -28,13 +28,14 @@ abbrev pub add_numbers : Option ℤ → Option ℤ → Change World Value
 add_numbers (Some a) (Some b) world = or_range (in_range (a +ℤ b)) world
 add_numbers _ _ world = raises TypeError
 
+abbrev pub add_values : Value-F Value → Value-F Value → Change World Value
+add_values (Value-F.Str s) (Value-F.Str t) world = costs (length (s ++ t)) (done (value.Str (s ++ t), world))
+add_values (Value-F.Tuple xs) (Value-F.Tuple ys) world = costs (length (xs ++ ys)) (done (value.Tuple (xs ++ ys), world))
+add_values (Value-F.Ref i) (Value-F.Ref j) world = add_objects (object_at world i) (object_at world j) world
+add_values a b world = add_numbers (number_of a) (number_of b) world
+
 abbrev pub add_by : Value-F Value → Value-F Value → Change World Value
-add_by (Value-F.View x) b world = leaves construct.View
-add_by a (Value-F.View y) world = leaves construct.View
-add_by (Value-F.Str s) (Value-F.Str t) world = costs (length (s ++ t)) (done (value.Str (s ++ t), world))
-add_by (Value-F.Tuple xs) (Value-F.Tuple ys) world = costs (length (xs ++ ys)) (done (value.Tuple (xs ++ ys), world))
-add_by (Value-F.Ref i) (Value-F.Ref j) world = add_objects (object_at world i) (object_at world j) world
-add_by a b world = add_numbers (number_of a) (number_of b) world
+add_by a b world = if is_view a || is_view b then leaves construct.View else add_values a b world
 
 -- Integers are added; strings, tuples and lists are joined, lists to a new one, a step for each element of the result.
 abbrev pub add : Value → Value → Change World Value

@@ -17,6 +17,10 @@ number_of (Value-F.Bool b) = Some (number_of_truth b)
 number_of (Value-F.Int n) = Some n
 number_of _ = None
 
+abbrev pub is_view : {A : Type 0} → Value-F A → Bool
+is_view (Value-F.View view) = true
+is_view _ = false
+
 -- a built-in class's place in the list of them
 abbrev pub place_of_class : BuiltClass → ℕ
 place_of_class built.Object = 0

@@ -15,8 +15,10 @@ mod instances;
 mod keys;
 mod lists;
 mod objects;
+mod order;
 mod places;
 mod same;
+mod truth;
 
 pub use objects::Objects;
 pub use py_meaning::{ObjKind, Object, Op, Order, PyStr, PyTuple, Sequence, Shared, Value, View};

@@ -1,6 +1,6 @@
 // When two values that aren't both tuples are the same.
 ghost use Rattle.std.specs.Prelude.{◌≡◌, Some, bytes_eq};
-ghost use Rattle.py_meaning.specs.Values.{number_of, number_of_truth, place_of_class, same_class, same_number, same_single};
+ghost use Rattle.py_meaning.specs.Values.{number_of, number_of_truth, place_of_class, same_class, same_number, same_single, is_view};
 ghost use Rattle.py_meaning.specs.declared.value.Value.{out-Value};
 
 use crate::Value;
@@ -84,4 +84,11 @@ pub(crate) fn is_same_single(a: &Value, b: &Value) -> bool
         Value::View(_) => false,
         Value::ModuleRef => matches!(b, Value::ModuleRef),
     }
+}
+
+#[tactic(auto, using(py_meaning::proofs::Folds::views))]
+pub(crate) fn is_view(value: &Value) -> bool
+    ensures { result ≡ is_view (out-Value value.now) }
+{
+    matches!(value, Value::View(_))
 }

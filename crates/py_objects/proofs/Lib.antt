@@ -2,3 +2,4 @@ pub mod Writes
 pub mod Costs
 pub mod Fronts
 pub mod Depths
+pub mod Sums

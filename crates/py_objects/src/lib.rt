@@ -8,9 +8,11 @@
 //! It stands on `py_meaning`, which has the words, and on `pyn_base`.
 #![tactic(auto)]
 
+mod add;
 mod dicts;
 mod displays;
 mod equal;
+mod fork;
 mod instances;
 mod keys;
 mod lists;

@@ -42,6 +42,8 @@ same_key-Tuple xs b = same_key-out (value.Tuple xs) b ∙ ap (λ k. same_key_by 
 -- a value's one level, by its variant
 pub ruleset views = (outs-None, outs-Bool, outs-Int, outs-Str, outs-Tuple, outs-Ref, outs-Class, outs-Func, outs-View, outs-ModuleRef)
 
+pub ruleset depths = (depth-Tuple, depth-out)
+
 pub ruleset as_keys = (as_key-Tuple, as_key-out)
 
 pub ruleset same_keys = (same_key-Tuple, same_key-out)

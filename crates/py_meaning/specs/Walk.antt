@@ -48,6 +48,10 @@ abbrev pub counted : ℤ → ℤ → ℕ → List Value
 counted start step zero = []
 counted start step (suc count) = value.Int start ∷ counted (start +ℤ step) step count
 
+-- each character as a string of its own
+abbrev pub characters_of : List ℕ → List Value
+characters_of s = map (λ c. value.Str (c ∷ [])) s
+
 abbrev pub keys_of : Pairs → List Value
 keys_of pairs = map (λ pair. pair.0) pairs
 
@@ -70,7 +74,7 @@ walked_view world (Values dict) = values_of (pairs world dict)
 walked_view world (Items dict) = items_of (pairs world dict)
 
 abbrev pub walked_by : World → Value-F Value → Option (List Value)
-walked_by world (Value-F.Str s) = Some (map (λ c. value.Str (c ∷ [])) s)
+walked_by world (Value-F.Str s) = Some (characters_of s)
 walked_by world (Value-F.Tuple parts) = Some parts
 walked_by world (Value-F.Ref id) = walked_object (object_at world id)
 walked_by world (Value-F.View view) = Some (walked_view world view)
@@ -83,7 +87,7 @@ walked world x = walked_by world (out-Value x)
 abbrev pub shallow : List Value → Bool
 shallow items = list_all (λ item. nat_le (depth item) tuple_limit) items
 
-abbrev walk_over : Option (List Value) → Costing (List Value)
+abbrev pub walk_over : Option (List Value) → Costing (List Value)
 walk_over None = raises TypeError
 walk_over (Some items) = costs (length items) (if shallow items then done items else leaves construct.TupleDepth)
 

@@ -33,5 +33,5 @@ pub by_number : (world : World) (order : Order) (parts : List Value → List Val
     → ordered_numbers order m n left ≡ ends → ordered_by world order parts (out-Value a) (out-Value b) left ≡ ends
 by_number world order parts a b k m n left ends is simple em en va vb e =
     rw (va, vb) (ap (λ x. ordered_values world order parts x (out-Value b) left) is ∙ ap (λ f. f left) (simple (out-Value b))
-        ∙ ap (λ x. ordered_numbers order (number_of x) (number_of (out-Value b)) left) (sym is)
-        ∙ ap (λ x. ordered_numbers order x (number_of (out-Value b)) left) (sym em) ∙ ap (λ x. ordered_numbers order m x left) (sym en) ∙ e)
+    ∙ ap (λ x. ordered_numbers order (number_of x) (number_of (out-Value b)) left) (sym is)
+    ∙ ap (λ x. ordered_numbers order x (number_of (out-Value b)) left) (sym em) ∙ ap (λ x. ordered_numbers order m x left) (sym en) ∙ e)

@@ -3,3 +3,4 @@ pub mod Costs
 pub mod Fronts
 pub mod Depths
 pub mod Sums
+pub mod Counting

@@ -32,6 +32,6 @@ pub by_number : (world : World) (a b : Value) (k : Value-F Value) (m n : Option 
     → add_numbers m n left ≡ (answer, left) → UnlessMemory answer (changes (add a b) world left ≡ (answer, world, left))
 by_number world a b k m n left answer is simple em en va vb e = always answer
     (rw (va, vb) (ap (λ x. changes (add_values x (out-Value b)) world left) is ∙ ap (λ f. changes f world left) (simple (out-Value b))
-        ∙ stays world (add_numbers (number_of k) (number_of (out-Value b))) answer left
-            (ap (λ x. add_numbers (number_of x) (number_of (out-Value b)) left) (sym is)
-                ∙ ap (λ x. add_numbers x (number_of (out-Value b)) left) (sym em) ∙ ap (λ x. add_numbers m x left) (sym en) ∙ e)))
+    ∙ stays world (add_numbers (number_of k) (number_of (out-Value b))) answer left
+    (ap (λ x. add_numbers (number_of x) (number_of (out-Value b)) left) (sym is)
+    ∙ ap (λ x. add_numbers x (number_of (out-Value b)) left) (sym em) ∙ ap (λ x. add_numbers m x left) (sym en) ∙ e)))

@@ -34,13 +34,7 @@ impl Objects {
     }
 
     /// Puts a value under a key.
-    pub fn dict_put(
-        &mut self,
-        dict: ObjId,
-        key: Value,
-        value: Value,
-        fuel: &mut Fuel,
-    ) -> Op<()>
+    pub fn dict_put(&mut self, dict: ObjId, key: Value, value: Value, fuel: &mut Fuel) -> Op<()>
         ensures meant { UnlessMemory result (changes (dict_put dict key value) self.old fuel.old ≡ (result, self.new, fuel.new)) }
         ensures unchanged { UnlessDone result (self.new ≡ self.old) }
     {

@@ -33,7 +33,12 @@ impl Objects {
                 _ => Op::Done(false),
             },
             Value::Tuple(xs) => match b {
-                Value::Tuple(ys) => self.equal_sequences(levels, xs.as_slice(), ys.as_slice(), fuel),
+                Value::Tuple(ys) => self.equal_sequences(
+                    levels,
+                    xs.as_slice(),
+                    ys.as_slice(),
+                    fuel,
+                ),
                 _ => Op::Done(false),
             },
             Value::Ref(i) => match b {
@@ -57,7 +62,12 @@ impl Objects {
         }
         match self.object(i) {
             Some(Object::Dict(xs, _)) => match self.object(j) {
-                Some(Object::Dict(ys, _)) => self.equal_dicts(levels, xs.as_slice(), ys.as_slice(), fuel),
+                Some(Object::Dict(ys, _)) => self.equal_dicts(
+                    levels,
+                    xs.as_slice(),
+                    ys.as_slice(),
+                    fuel,
+                ),
                 _ => Op::Done(false),
             },
             Some(Object::Instance(_, _, _)) => Op::Done(false),

@@ -47,10 +47,7 @@ fn copied(alloc: Global, object: &Object) -> Result<Object, Memory>
     })
 }
 
-fn shared_pairs(
-    alloc: Global,
-    pairs: &[(Value, Value)],
-) -> Result<Vec<(Value, Value)>, Memory>
+fn shared_pairs(alloc: Global, pairs: &[(Value, Value)]) -> Result<Vec<(Value, Value)>, Memory>
     ensures { IfOk result (λ shared. shared.items ≡ pairs.now) }
 {
     let mut shared = Vec::new(alloc);

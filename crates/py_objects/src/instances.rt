@@ -9,11 +9,7 @@ use std::alloc::Global;
 
 impl Objects {
     /// A new instance without attributes, and with the arguments of an exception where they are known.
-    pub fn make_instance(
-        &mut self,
-        class: ClassId,
-        args: Option<PyTuple>,
-    ) -> Result<ObjId, Memory>
+    pub fn make_instance(&mut self, class: ClassId, args: Option<PyTuple>) -> Result<ObjId, Memory>
         ensures ok { IfOk result (λ id. make_instance class args self.old ≡ (id, self.new)) }
         ensures err { OnErr result (self.new ≡ self.old) }
     {

@@ -12,7 +12,11 @@ use pyn_base::{BuiltClass, Construct, Fuel};
 fn within(cost: u64, limit: u32) -> Option<u32>
     ensures { result ≡ within cost limit }
 {
-    if cost <= limit as u64 { Some(cost as u32) } else { None }
+    if cost <= limit as u64 {
+        Some(cost as u32)
+    } else {
+        None
+    }
 }
 
 /// What a key costs, unless that is above the limit.

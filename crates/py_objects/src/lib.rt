@@ -9,6 +9,7 @@
 #![tactic(auto)]
 
 mod add;
+mod depth;
 mod dicts;
 mod displays;
 mod equal;
@@ -19,8 +20,10 @@ mod lists;
 mod objects;
 mod order;
 mod places;
+mod ranges;
 mod same;
 mod truth;
+mod walk;
 
 pub use objects::Objects;
 pub use py_meaning::{ObjKind, Object, Op, Order, PyStr, PyTuple, Sequence, Shared, Value, View};

@@ -2,8 +2,8 @@
 ghost use Rattle.std.specs.Prelude.{◌≡◌};
 ghost use Rattle.py_meaning.specs.Walk.{truth, is_filled, object_truth, view_truth};
 ghost use Rattle.py_meaning.specs.Worlds.{object_at};
-ghost use Rattle.py_meaning.specs.Values.{range_length, steps_over};
 
+use crate::ranges::range_length;
 use crate::{Object, Objects, Value, View};
 use pyn_base::ObjId;
 
@@ -52,32 +52,4 @@ fn is_filled<T>(items: &[T]) -> bool
     ensures { result ≡ is_filled items.now }
 {
     !items.is_empty()
-}
-
-/// The number of integers of a range.
-pub(crate) fn range_length(start: i64, stop: i64, step: i64) -> u64
-    ensures { result ≡ range_length start stop step }
-{
-    if step >= 0 {
-        if start < stop {
-            steps_over(stop.abs_diff(start), step.unsigned_abs())
-        } else {
-            0
-        }
-    } else if stop < start {
-        steps_over(start.abs_diff(stop), step.unsigned_abs())
-    } else {
-        0
-    }
-}
-
-/// How many steps of a size lead over a distance, the last one perhaps beyond its end.
-fn steps_over(distance: u64, size: u64) -> u64
-    ensures { result ≡ steps_over distance size }
-{
-    if size == 0 {
-        0
-    } else {
-        ((distance as u128 + (size - 1) as u128) / size as u128) as u64
-    }
 }

@@ -1,15 +1,15 @@
 -- The definitions by folds, one level at a time.
-use Rattle.std.proofs.Common.{◌≡◌, ℕ, zero, suc, ◌+◌, Bool, true, false, ◌&&◌, List, [], ◌∷◌, map, refl, ◌∙◌, ap, sum, length}
-use Rattle.std.specs.List.{list_all, sum_by}
+use Rattle.std.proofs.Common.{◌≡◌, ℕ, suc, ◌+◌, Bool, List, map, ◌∙◌, ap}
+use Rattle.std.specs.List.{sum_by}
 use Rattle.std.proofs.lemmas.List.Sums.{sum-map}
 use Rattle.py_meaning.specs.declared.op.Op.{Op}
 use Rattle.py_meaning.specs.declared.value.Value.{Value, Value-F, out-Value, fold_out-Value}
 use Rattle.py_meaning.specs.declared.value.Value.TheFolds.{map-Value}
 use Rattle.py_meaning.specs.declared.value.Value.TheVariants as value
 use Rattle.py_meaning.specs.declared.value.Value.TheVariants.{outs-None, outs-Bool, outs-Int, outs-Str, outs-Tuple, outs-Ref, outs-Class, outs-Func, outs-View, outs-ModuleRef}
-use Rattle.py_meaning.specs.Values.{same_single, depth, depth_by, deepest}
+use Rattle.py_meaning.specs.Values.{depth, depth_by, deepest}
 use Rattle.py_meaning.specs.Keys.{key_cost, key_cost_by, as_key, as_key_by, all_keys, same_key, same_key_by}
-use Rattle.py_meaning.specs.Worlds.{World}
+use Rattle.py_meaning.specs.Worlds.{World, all_sound, sound_by}
 
 pub depth-out : (v : Value) → depth v ≡ depth_by (map-Value Value ℕ depth (out-Value v))
 unfolding depth
@@ -48,4 +48,8 @@ pub ruleset as_keys = (as_key-Tuple, as_key-out)
 
 pub ruleset same_keys = (same_key-Tuple, same_key-out)
 
-pub ruleset levels = (depth-out, key_cost-out, as_key-out, same_key-out)
+pub all_sound-out : (marks : List Bool) (v : Value) → all_sound marks v ≡ sound_by marks (map-Value Value Bool (all_sound marks) (out-Value v))
+unfolding all_sound
+all_sound-out marks v = fold_out-Value Bool (sound_by marks) v
+
+pub ruleset levels = (depth-out, key_cost-out, as_key-out, same_key-out, all_sound-out)

@@ -1,5 +1,5 @@
 -- Keys of dicts (the manual, "Mapping Types"; Language Reference 3.2.7).
-use Rattle.std.specs.Prelude.{ℕ, ◌+◌, ◌-◌, ◌^◌, min, Bool, true, false, ◌&&◌, List, [], ◌∷◌, ◌++◌, length, sum, slice_get, remove, Option, Some, None}
+use Rattle.std.specs.Prelude.{ℕ, ◌+◌, ◌-◌, ◌^◌, min, Bool, true, false, ◌&&◌, List, [], ◌∷◌, length, sum, Option}
 use Rattle.std.specs.List.{position}
 use Rattle.std.specs.Option.{option_map}
 use Rattle.pyn_base.specs.declared.class.BuiltClass.TheVariants.{TypeError}

@@ -1,5 +1,5 @@
 -- The orderings (Language Reference 6.10.1) and what they cost.
-use Rattle.std.specs.Prelude.{ℕ, zero, suc, min, ℤ, Bool, true, false, if◌then◌else◌, ◌||◌, List, [], ◌∷◌, length, Option, Some, None}
+use Rattle.std.specs.Prelude.{ℕ, zero, suc, min, ℤ, Bool, if◌then◌else◌, ◌||◌, List, ◌∷◌, length, Option, Some}
 use Rattle.std.specs.declared.cmp.Ordering.{Ordering}
 use Rattle.std.specs.Ordering.{is_lt, is_gt, is_le, is_ge, nat_cmp, int_cmp}
 use Rattle.std.specs.Cmp.Lexicographic.{slice_cmp}

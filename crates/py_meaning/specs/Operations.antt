@@ -1,11 +1,9 @@
 -- What each call of a table of objects does to the world, one function a call.
-use Rattle.std.specs.Prelude.{ℕ, ◌+◌, ◌-◌, min, ℤ, pos, negsuc, ◌+ℤ◌, nat_lt, if◌then◌else◌, bytes_eq, List, [], ◌∷◌, ◌++◌, length, map, slice_get, slice_set, remove, Option, Some, None}
+use Rattle.std.specs.Prelude.{ℕ, ◌+◌, ◌-◌, min, ℤ, pos, negsuc, nat_lt, if◌then◌else◌, bytes_eq, List, [], ◌∷◌, ◌++◌, length, map, slice_get, slice_set, remove, Option, Some, None}
 use Rattle.std.specs.List.{position, insert, sum_by}
 use Rattle.std.specs.Option.{option_map}
-use Rattle.pyn_base.specs.Int.{in_range}
-use Rattle.pyn_base.specs.declared.class.BuiltClass.TheVariants.{TypeError, IndexError, KeyError}
+use Rattle.pyn_base.specs.declared.class.BuiltClass.TheVariants.{IndexError, KeyError}
 use Rattle.pyn_base.specs.declared.class.ClassId.{ClassId}
-use Rattle.pyn_base.specs.declared.construct.Construct.TheVariants as construct
 use Rattle.pyn_base.specs.declared.ids.ObjId.{ObjId}
 use Rattle.py_meaning.specs.declared.object.Object.{Object}
 use Rattle.py_meaning.specs.declared.object.Object.TheVariants as object
@@ -13,11 +11,10 @@ use Rattle.py_meaning.specs.declared.object.ObjKind.{ObjKind}
 use Rattle.py_meaning.specs.declared.object.ObjKind.TheVariants as kind
 use Rattle.py_meaning.specs.declared.op.Op.{Op}
 use Rattle.py_meaning.specs.declared.op.Op.TheVariants as op
-use Rattle.py_meaning.specs.declared.value.Value.{Value, Value-F, out-Value}
-use Rattle.py_meaning.specs.declared.value.Value.TheVariants as value
+use Rattle.py_meaning.specs.declared.value.Value.{Value}
 use Rattle.py_meaning.specs.Steps.{Costing, Change, done, raises, leaves, costs, ◌>>=◌}
 use Rattle.py_meaning.specs.Lists.{with_second}
-use Rattle.py_meaning.specs.Values.{number_of, at_place}
+use Rattle.py_meaning.specs.Values.{at_place}
 use Rattle.py_meaning.specs.Worlds.{World, Pairs, Attributes, object_at, elements, pairs, attributes, with_object}
 use Rattle.py_meaning.specs.Keys.{as_key, all_keys, key_cost, key_place, value_of_key, one_change_more}
 

@@ -1,5 +1,5 @@
 -- Values: numbers, sameness, lengths and depths.
-use Rattle.std.specs.Prelude.{ℕ, zero, suc, ◌+◌, ◌-◌, ◌/◌, max, ℤ, pos, negsuc, ◌-ℤ◌, int_lt, nat_abs, Bool, true, false, if◌then◌else◌, ◌==◌, bytes_eq, List, [], ◌∷◌, length, slice_get, Option, Some, None}
+use Rattle.std.specs.Prelude.{ℕ, zero, suc, ◌+◌, ◌/◌, max, ℤ, pos, negsuc, ◌-ℤ◌, int_lt, nat_abs, Bool, true, false, if◌then◌else◌, ◌==◌, bytes_eq, List, [], ◌∷◌, slice_get, Option, Some, None}
 use Rattle.std.specs.Ordering.{int_eq}
 use Rattle.pyn_base.specs.declared.class.BuiltClass.{BuiltClass}
 use Rattle.pyn_base.specs.declared.class.BuiltClass.TheVariants as built

@@ -1,8 +1,7 @@
 -- Worlds: objects in the order in which they were made.
-use Rattle.std.specs.Prelude.{ℕ, ◌-◌, ◌^◌, ℤ, pos, negsuc, ◌-ℤ◌, int_le, Bool, true, false, ◌&&◌, ◌==◌, not, nat_lt, nat_le, List, [], ◌∷◌, ◌++◌, length, map, slice_get, slice_index_or, slice_set, Option, Some, None}
+use Rattle.std.specs.Prelude.{◌-◌, ◌^◌, ℤ, pos, negsuc, int_le, Bool, true, false, ◌&&◌, not, nat_lt, nat_le, List, [], length, map, slice_get, slice_index_or, slice_set, Option, Some, None}
 use Rattle.std.specs.List.{list_all}
 use Rattle.std.specs.Ordering.{int_eq}
-use Rattle.pyn_base.specs.declared.class.ClassId.{ClassId}
 use Rattle.pyn_base.specs.declared.ids.ObjId.{ObjId}
 use Rattle.pyn_base.specs.declared.name.Name.{Name}
 use Rattle.py_meaning.specs.declared.object.Object.{Object}
@@ -79,9 +78,13 @@ sound_by marks (Value-F.Ref id) = nat_lt id.0 (length marks)
 sound_by marks (Value-F.View view) = sound_view marks view
 sound_by marks _ = true
 
--- each reference names an object, at every depth of the tuples, each view of a dict a dict, and no tuple is too deep
-unfoldable pub sound : List Bool → Value → Bool
-sound marks value = fold-Value Bool (sound_by marks) value && nat_le (depth value) tuple_limit
+-- each reference names an object, at every depth of the tuples, and each view of a dict a dict
+unfoldable pub all_sound : List Bool → Value → Bool
+all_sound marks = fold-Value Bool (sound_by marks)
+
+-- and no tuple is too deep
+abbrev pub sound : List Bool → Value → Bool
+sound marks value = all_sound marks value && nat_le (depth value) tuple_limit
 
 abbrev pub sound_args : List Bool → Option (List Value) → Bool
 sound_args marks None = true

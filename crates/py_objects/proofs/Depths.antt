@@ -1,9 +1,9 @@
 -- Parts one level further.
-use Rattle.std.proofs.Common.{◌≡◌, ℕ, zero, suc, ◌-◌, List, length, refl, sym, ◌∙◌, ap, subst, arith, eq-eqb, ℤ, Option, Bool, true, false, if◌then◌else◌, ◌==◌}
+use Rattle.std.proofs.Common.{◌≡◌, ℕ, zero, suc, ◌-◌, List, length, refl, sym, ◌∙◌, ap, arith, eq-eqb, ℤ, Option, Bool, false}
 use Rattle.py_meaning.specs.declared.op.Op.{Op}
 use Rattle.py_meaning.specs.declared.value.Value.{Value, Value-F, out-Value}
 use Rattle.py_meaning.specs.Values.{number_of, is_view}
-use Rattle.py_meaning.specs.Steps.{Costing, done}
+use Rattle.py_meaning.specs.Steps.{Costing}
 use Rattle.py_meaning.specs.Worlds.{World, Pairs}
 use Rattle.py_meaning.specs.declared.order.Order.{Order}
 use Rattle.py_meaning.specs.Less.{ordered_numbers, ordered_values, ordered_by, ordered_parts, ordered_within, order_within}

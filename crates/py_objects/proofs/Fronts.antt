@@ -1,7 +1,7 @@
 -- Facts on what is done part by part.
-use Rattle.std.proofs.Common.{◌≡◌, ℕ, suc, List, [], ◌∷◌, length, map, ap, refl, arith, Bool, true, false, ◌&&◌}
+use Rattle.std.proofs.Common.{◌≡◌, suc, List, [], ◌∷◌, length, map, ap, refl, Bool, true, false, ◌&&◌}
 use Rattle.py_meaning.specs.declared.value.Value.{Value}
-use Rattle.py_meaning.specs.Keys.{same_key, all_agree}
+use Rattle.py_meaning.specs.Keys.{all_agree}
 
 no_and : (b : Bool) → false ≡ b && false
 no_and true = refl

@@ -1,9 +1,9 @@
 -- Sums of numbers.
-use Rattle.std.proofs.Common.{◌≡◌, ℕ, ℤ, Option, Bool, true, false, if◌then◌else◌, refl, sym, ◌∙◌, ap}
+use Rattle.std.proofs.Common.{◌≡◌, ℕ, ℤ, Option, false, refl, sym, ◌∙◌, ap}
 use Rattle.py_meaning.specs.declared.op.Op.{Op}
 use Rattle.py_meaning.specs.declared.op.Op.TheVariants as op
 use Rattle.py_meaning.specs.declared.value.Value.{Value, Value-F, out-Value}
-use Rattle.py_meaning.specs.Steps.{Costing, Change, changes, settle, go_on, done, UnlessMemory}
+use Rattle.py_meaning.specs.Steps.{Costing, changes, settle, go_on, done, UnlessMemory}
 use Rattle.py_meaning.specs.Values.{number_of, is_view}
 use Rattle.py_meaning.specs.Worlds.{World}
 use Rattle.py_meaning.specs.Sums.{add, add_values, add_numbers, aside}

@@ -22,6 +22,8 @@ mod order;
 mod places;
 mod ranges;
 mod same;
+#[cfg(test)]
+mod tests;
 mod truth;
 mod walk;
 

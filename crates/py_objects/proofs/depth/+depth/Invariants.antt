@@ -1,4 +1,4 @@
-use Rattle.std.proofs.Common.{◌≡◌, nat_le, map, drop, take}
+use Rattle.std.proofs.Common.{◌≡◌, nat_le, map, drop}
 use Rattle.py_meaning.specs.Values.{depth, deepest}
 use Rattle.py_objects.proofs.depth.+depth.Given as goal
 

@@ -1,4 +1,4 @@
-use Rattle.std.proofs.Common.{◌≡◌, nat_le, map, drop, take}
+use Rattle.std.proofs.Common.{◌≡◌, drop}
 use Rattle.py_meaning.specs.Walk.{shallow}
 use Rattle.py_objects.proofs.depth.are_shallow.Given as goal
 

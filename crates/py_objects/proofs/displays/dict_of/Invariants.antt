@@ -1,4 +1,4 @@
-use Rattle.std.proofs.Common.{◌≡◌, ◌≤◌, [], map, drop, take}
+use Rattle.std.proofs.Common.{◌≡◌, [], drop}
 use Rattle.py_meaning.specs.Operations.{put_all}
 use Rattle.py_meaning.specs.declared.object.Object.TheVariants as object
 use Rattle.py_objects.proofs.displays.dict_of.Given as goal

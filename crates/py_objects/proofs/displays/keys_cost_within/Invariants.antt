@@ -1,4 +1,4 @@
-use Rattle.std.proofs.Common.{◌≡◌, ◌≤◌, [], map, drop, take}
+use Rattle.std.proofs.Common.{◌≡◌, ◌≤◌, take}
 use Rattle.std.specs.List.{sum_by}
 use Rattle.py_meaning.specs.Keys.{key_cost}
 use Rattle.py_objects.proofs.displays.keys_cost_within.Given as goal

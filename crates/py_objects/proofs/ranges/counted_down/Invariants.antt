@@ -1,4 +1,4 @@
-use Rattle.std.proofs.Common.{◌≡◌, ◌++◌, ◌^◌, pos, negsuc, ◌+ℤ◌, ◌≤ℤ◌}
+use Rattle.std.proofs.Common.{◌≡◌, ◌++◌, ◌^◌, pos, negsuc, ◌≤ℤ◌}
 use Rattle.py_meaning.specs.Values.{range_length}
 use Rattle.py_meaning.specs.Walk.{counted}
 use Rattle.py_objects.proofs.ranges.counted_down.Given as goal

@@ -1,4 +1,4 @@
-use Rattle.std.proofs.Common.{◌≡◌, ◌<ℤ◌, sym, ◌∙◌, arith}
+use Rattle.std.proofs.Common.{sym, ◌∙◌, arith}
 use Rattle.std.proofs.lemmas.Int.{ints}
 use Rattle.py_objects.proofs.Counting.{one_up, pushed_up, less_true}
 use Rattle.py_objects.proofs.ranges.counted_up.Goals as goal

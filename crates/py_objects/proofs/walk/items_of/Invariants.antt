@@ -1,4 +1,4 @@
-use Rattle.std.proofs.Common.{◌≡◌, nat_le, map, drop, take}
+use Rattle.std.proofs.Common.{◌≡◌, take}
 use Rattle.py_meaning.specs.Walk.{items_of}
 use Rattle.py_objects.proofs.walk.items_of.Given as goal
 

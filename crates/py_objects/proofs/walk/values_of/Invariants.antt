@@ -1,4 +1,4 @@
-use Rattle.std.proofs.Common.{◌≡◌, nat_le, map, drop, take}
+use Rattle.std.proofs.Common.{◌≡◌, take}
 use Rattle.py_meaning.specs.Walk.{values_of}
 use Rattle.py_objects.proofs.walk.values_of.Given as goal
 

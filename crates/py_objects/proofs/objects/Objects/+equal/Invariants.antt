@@ -1,4 +1,4 @@
-use Rattle.std.proofs.Common.{◌≡◌, ℕ, ◌+◌, ◌*◌, drop}
+use Rattle.std.proofs.Common.{◌≡◌, ◌+◌, ◌*◌, drop}
 use Rattle.py_meaning.specs.Equal.{equal_within, equal_parts, equal_pairs}
 use Rattle.py_objects.proofs.objects.Objects.+equal.Given as goal
 

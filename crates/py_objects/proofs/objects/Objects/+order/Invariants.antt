@@ -1,4 +1,4 @@
-use Rattle.std.proofs.Common.{◌≡◌, ℕ, ◌+◌, ◌*◌, ◌≤◌, length, drop}
+use Rattle.std.proofs.Common.{◌≡◌, ◌+◌, ◌*◌, ◌≤◌, length, drop}
 use Rattle.py_meaning.specs.Equal.{equal_within}
 use Rattle.py_meaning.specs.Less.{ordered_within, ordered_parts}
 use Rattle.py_objects.proofs.objects.Objects.+order.Given as goal

@@ -1,4 +1,4 @@
-use Rattle.std.proofs.Common.{◌≡◌, ◌≤◌, [], map, drop, take}
+use Rattle.std.proofs.Common.{◌≡◌, map, drop}
 use Rattle.py_meaning.specs.Keys.{as_key, all_keys}
 use Rattle.py_objects.proofs.objects.Objects.are_keys.Given as goal
 

@@ -20,9 +20,9 @@ judged-calls m name first =
     let P : Module → Type 0 = λ n. judged n (calls_suite name n) 20000 0 ≡ calls_report name n in
     let n = module_of first.functions in
     let report : judged n (calls_suite name n) 20000 0 ≡ calls_report name n =
-        ap (λ tests. record (judged n (calls_suite name n) 20000 0) { tests = tests }) (outcomes-calls first.functions first.distinct first.return)
-        ∙ ap (λ goals. record (judged n (calls_suite name n) 20000 0) { tests = (calls_report name n).tests; goals = goals }) (goal_lines-calls first.functions first.distinct first.return)
-        ∙ ap (λ minimal. record (calls_report name n) { minimal = minimal }) (none_can_go-calls first.functions first.distinct first.return) in
+    ap (λ tests. record (judged n (calls_suite name n) 20000 0) { tests = tests }) (outcomes-calls first.functions first.distinct first.return)
+    ∙ ap (λ goals. record (judged n (calls_suite name n) 20000 0) { tests = (calls_report name n).tests; goals = goals }) (goal_lines-calls first.functions first.distinct first.return)
+    ∙ ap (λ minimal. record (calls_report name n) { minimal = minimal }) (none_can_go-calls first.functions first.distinct first.return) in
     subst P (sym first.is) report
 
 pub minimal-first : (m : Module) → IsFirst m → IsMinimal m 20000 (calls_from 0 (functions_of m))

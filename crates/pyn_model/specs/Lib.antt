@@ -1,5 +1,6 @@
 pub mod Calls
 pub mod CallsReport
+pub mod Examples
 pub mod FileRun
 pub mod FirstModules
 pub mod Goals

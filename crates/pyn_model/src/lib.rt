@@ -9,8 +9,10 @@
 //! It stands on `py_language` and `py_meaning`, and knows nothing of desks, of words or of how a suite is found.
 #![tactic(auto)]
 
+mod examples;
 mod report;
 mod test;
 
+pub use examples::suites_by_example;
 pub use report::{GoalKind, GoalLine, Report, TestLine};
 pub use test::{Step, Suite, Test, TestCase};

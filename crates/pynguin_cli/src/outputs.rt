@@ -44,14 +44,16 @@ pub fn outputs_of(alloc: Global, job: &Job, module: &Module) -> Result<Vec<Outpu
     let suite = write_calls(alloc, module, job.name.as_str())?;
     let report = judge_calls(alloc, module, &job.name)?;
     let report = write_report(alloc, &report)?;
-    let mut outputs = Vec::new(alloc);
-    outputs.push(Output {
+    let suite = Output {
         path: job.suite.to_owned(alloc)?,
         text: suite,
-    })?;
-    outputs.push(Output {
+    };
+    let report = Output {
         path: job.report.to_owned(alloc)?,
         text: report,
-    })?;
+    };
+    let mut outputs = Vec::new(alloc);
+    outputs.push(suite)?;
+    outputs.push(report)?;
     Ok(outputs)
 }

@@ -1,4 +1,4 @@
-use Rattle.std.proofs.Common.{◌≡◌, refl, sym, ap, ap₂, ◌∙◌, subst, ℕ, suc, ◌+◌, ◌*◌, ◌<◌, ◌≤◌, Bool, true, false, cond, ◌&&◌, nat_le, nat_lt, List, [], ◌∷◌, ◌++◌, length, take, drop, map, Option, Some, None, option_map, option_and_then, Result, Ok, Err, length-append, arith, min, is_ok, ◌⊎◌, inl, inr}
+use Rattle.std.proofs.Common.{◌≡◌, refl, sym, ap, ◌∙◌, ℕ, suc, ◌+◌, ◌<◌, ◌≤◌, Bool, true, false, cond, ◌&&◌, nat_lt, List, [], ◌∷◌, ◌++◌, length, take, drop, map, Option, Some, None, option_map, option_and_then, Result, Ok, Err, arith, min, is_ok, ◌⊎◌, inl, inr}
 use Rattle.std.proofs.lemmas.Bool.{and_from, and_right, le-ltb, cases_Bool, cases_lt, both_ways}
 use Rattle.std.proofs.lemmas.List.{length-take, take-append-drop}
 use Rattle.pyn_base.specs.declared.construct.Construct.TheVariants.{Form}
@@ -24,9 +24,9 @@ up_to done lines more k e h = ap (λ n. with_more done (take (1 + n) lines ++ mo
 
 -- ---- the first line
 
-record Start (done : List First) (head : List ℕ) : Type 0 where
-  name : List ℕ
-  begins : Begins done head name
+pub record Start (done : List First) (head : List ℕ) : Type 0 where
+  pub name : List ℕ
+  pub begins : Begins done head name
 
 by_name : (done : List First) (head name : List ℕ) (t : Bool) → named_by head ≡ Some name → is_among (map name_of done) name ≡ t → (names_up_to Head (map name_of done) head ≡ None) ⊎ Start done head
 by_name done head name true n f =
@@ -34,7 +34,7 @@ by_name done head name true n f =
     ∙ ap (λ t. cond t None (Some (map name_of done ++ name ∷ []))) f)
 by_name done head name false n f = inr (record { name = name; begins = record { named = n; fresh = f } })
 
-by_named : (done : List First) (head : List ℕ) (o : Option (List ℕ)) → named_by head ≡ o → (names_up_to Head (map name_of done) head ≡ None) ⊎ Start done head
+pub by_named : (done : List First) (head : List ℕ) (o : Option (List ℕ)) → named_by head ≡ o → (names_up_to Head (map name_of done) head ≡ None) ⊎ Start done head
 by_named done head None n = inl (ap (λ o. option_and_then (λ name. cond (is_among (map name_of done) name) None (Some (map name_of done ++ name ∷ []))) o) n)
 by_named done head (Some name) n = by_name done head name (is_among (map name_of done) name) n refl
 
@@ -46,7 +46,7 @@ at_head done head rest more (inr start) next h = next start.name start.begins h
 
 -- ---- the second
 
-by_literal : (o : Option ExprKind) → (o ≡ None) ⊎ ((literal : ExprKind) × (o ≡ Some literal))
+pub by_literal : (o : Option ExprKind) → (o ≡ None) ⊎ ((literal : ExprKind) × (o ≡ Some literal))
 by_literal None = inl refl
 by_literal (Some literal) = inr (literal, refl)
 
@@ -136,11 +136,11 @@ line_in (Ok module_) = 0
 line_in (Err (Refused line construct)) = line
 line_in (Err Memory) = 0
 
-refused_at : (lines : List (List ℕ)) (line : ℕ) (o : Option (List First)) → answer lines o ≡ Err (Refused line Form) → refused_line lines ≡ line
+pub refused_at : (lines : List (List ℕ)) (line : ℕ) (o : Option (List First)) → answer lines o ≡ Err (Refused line Form) → refused_line lines ≡ line
 refused_at lines line None e = ap line_in e
 refused_at lines line (Some functions) e = absurd (both_ways true (ap is_ok e) refl)
 
-without : (o : Option (List First)) → option_and_then permitted (option_map (λ more. [] ++ more) o) ≡ None → option_and_then permitted o ≡ None
+pub without : (o : Option (List First)) → option_and_then permitted (option_map (λ more. [] ++ more) o) ≡ None → option_and_then permitted o ≡ None
 without None e = refl
 without (Some functions) e = e
 

@@ -246,15 +246,19 @@ still_distinct done name function e d f =
     ap is_distinct (names-push done function)
     ∙ is_distinct-push (map name_of done) function.name d (ap (λ n. is_among (map name_of done) n) e ∙ f)
 
-pub last_function : (done : List First) (head body : List ℕ) (function : First) → Holds done head body function → is_distinct (map name_of done) ≡ true → length done < 2000
-    → awaited done (head ∷ body ∷ []) ≡ Ok (module_of (done ++ function ∷ []))
-last_function done head body function h d l =
+pub with_function : (done : List First) (head body : List ℕ) (function : First) → Holds done head body function → is_distinct (map name_of done) ≡ true → length done < 2000
+    → with_more done (head ∷ body ∷ []) ≡ Some (done ++ function ∷ [])
+with_function done head body function h d l =
     let all = done ++ function ∷ [] in
     let some : with_more done (head ∷ body ∷ []) ≡ permitted all = some_more done (head ∷ body ∷ []) (function ∷ []) (ap alone (is_function done head body function h)) in
     let distinct : is_distinct (map name_of all) ≡ true = still_distinct done function.name function refl d h.begins.fresh in
     let few : nat_le (length all) 2000 ≡ true = le-leb _ _ (omega (arith, length-append done (function ∷ []), l)) in
-    let passed : permitted all ≡ Some all = ap (λ t. cond t (Some all) None) (and_from _ _ distinct few) in
-    ap (answered (4 * length done + 1 + fitting Head (map name_of done) (head ∷ body ∷ []))) (some ∙ passed)
+    some ∙ ap (λ t. cond t (Some all) None) (and_from _ _ distinct few)
+
+pub last_function : (done : List First) (head body : List ℕ) (function : First) → Holds done head body function → is_distinct (map name_of done) ≡ true → length done < 2000
+    → awaited done (head ∷ body ∷ []) ≡ Ok (module_of (done ++ function ∷ []))
+last_function done head body function h d l =
+    ap (answered (4 * length done + 1 + fitting Head (map name_of done) (head ∷ body ∷ []))) (with_function done head body function h d l)
 
 -- ---- the empty lines
 

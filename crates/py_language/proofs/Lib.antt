@@ -1,3 +1,4 @@
+pub mod FirstFormFronts
 pub mod FirstFormLaws
 pub mod FirstFormLemmas
 pub mod TreesNumbering

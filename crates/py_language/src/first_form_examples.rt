@@ -1,5 +1,5 @@
 // What the words for the first form mean, on small texts.
-ghost use Rattle.std.specs.Prelude.{◌≡◌, ◌≤◌, ◌-◌, ◌^◌, ℕ, List, length, take, true, false, pos, codes, [], ◌∷◌, Some, None, Ok, Err};
+ghost use Rattle.std.specs.Prelude.{◌≡◌, ◌≤◌, ◌-◌, ◌^◌, ◌++◌, ℕ, List, IsSome, length, take, true, false, pos, codes, [], ◌∷◌, Some, None, Ok, Err};
 ghost use Rattle.pyn_base.specs.declared.construct.Construct.TheVariants.{Form};
 ghost use Rattle.py_syntax.specs.declared.refusal.Refusal.TheVariants.{Refused};
 ghost use Rattle.py_syntax.specs.declared.expr.ExprKind.TheVariants.{NoneLit, BoolLit, IntLit, StrLit};
@@ -36,9 +36,11 @@ pub fn examples_of_first_form()
     ensures one_name_twice { first_form (codes "def f():\n    return 1\n\n\ndef f():\n    return 2\n") ≡ Err (Refused 5 Form) }
 {}
 
-/// The law of the first form's refusals. The function does nothing.
+/// The laws of the first form's refusals. The function does nothing.
 ///
-/// Where a line of a text is refused, no text of the form begins with the lines up to it.
+/// The line of a refusal is the first one such that no text of the form begins with the lines up to it: where it is a line
+/// of the text, no text of the form begins so; and some lines of the form begin with those before it.
 pub fn laws_of_first_form()
     ensures refused { (text other : List ℕ) (line : ℕ) → first_form text ≡ Err (Refused line Form) → line ≤ length (lines_of text) → take line (lines_of other) ≡ take line (lines_of text) → functions_of (lines_of other) ≡ None }
+    ensures first { (text : List ℕ) (line : ℕ) → first_form text ≡ Err (Refused line Form) → (more : List (List ℕ)) × IsSome (functions_of (take (line - 1) (lines_of text) ++ more)) }
 {}

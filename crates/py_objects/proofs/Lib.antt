@@ -4,3 +4,4 @@ pub mod Fronts
 pub mod Depths
 pub mod Sums
 pub mod Counting
+pub mod Keeping

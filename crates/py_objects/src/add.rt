@@ -1,7 +1,7 @@
 // What `+` gives.
-ghost use Rattle.std.specs.Prelude.{◌≡◌, ℕ, ◌++◌, IfOk};
+ghost use Rattle.std.specs.Prelude.{◌≡◌, IsTrue, ℕ, ◌++◌, IfOk};
 ghost use Rattle.py_meaning.specs.Steps.{changes, UnlessMemory, UnlessDone};
-ghost use Rattle.py_meaning.specs.Worlds.{object_at};
+ghost use Rattle.py_meaning.specs.Worlds.{sound_world, sound, dicts, object_at};
 ghost use Rattle.py_meaning.specs.Sums.{add, is_list, add_refs, add_numbers, add_texts, add_tuples};
 
 use crate::lists::shared_all;
@@ -17,6 +17,7 @@ impl Objects {
     pub fn add(&mut self, a: &Value, b: &Value, fuel: &mut Fuel) -> Op<Value>
         ensures meant { UnlessMemory result (changes (add a.now b.now) self.old fuel.old ≡ (result, self.new, fuel.new)) }
         ensures unchanged { UnlessDone result (self.new ≡ self.old) }
+        ensures sound { IsTrue (sound_world self.old) → IsTrue (sound (dicts self.old) a.now) → IsTrue (sound (dicts self.old) b.now) → IsTrue (sound_world self.new) }
     {
         if is_view(a) || is_view(b) {
             return Op::Leaves(Construct::View);
@@ -47,6 +48,7 @@ impl Objects {
     fn add_refs(&mut self, i: ObjId, j: ObjId, fuel: &mut Fuel) -> Op<Value>
         ensures meant { UnlessMemory result (changes (add_refs i j) self.old fuel.old ≡ (result, self.new, fuel.new)) }
         ensures unchanged { UnlessDone result (self.new ≡ self.old) }
+        ensures sound { IsTrue (sound_world self.old) → IsTrue (sound_world self.new) }
     {
         if !self.is_list(i) || !self.is_list(j) {
             return Op::Raises(BuiltClass::TypeError);

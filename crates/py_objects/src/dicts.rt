@@ -1,9 +1,9 @@
 // Dicts: made, looked up, written and shortened. A key's cost comes first, also where it is no key.
-ghost use Rattle.std.specs.Prelude.{◌≡◌, ℕ, ◌+◌, ◌-◌, nat_le, if◌then◌else◌, length, OnOk, OnErr};
+ghost use Rattle.std.specs.Prelude.{◌≡◌, IsTrue, ℕ, ◌+◌, ◌-◌, nat_le, if◌then◌else◌, length, OnOk, OnErr};
 ghost use Rattle.std.specs.Option.{option_copied};
 ghost use Rattle.py_meaning.specs.Steps.{changes, UnlessMemory, UnlessDone};
 ghost use Rattle.py_meaning.specs.Keys.{key_cost, value_of_key};
-ghost use Rattle.py_meaning.specs.Worlds.{object_at, with_object};
+ghost use Rattle.py_meaning.specs.Worlds.{object_at, with_object, sound_world, sound, dicts};
 ghost use Rattle.py_meaning.specs.Operations.{dict_get, dict_put, dict_delete, put_pair, delete_pair, on_object};
 
 use crate::keys::{key_cost_within, key_place, pay_key};
@@ -37,6 +37,7 @@ impl Objects {
     pub fn dict_put(&mut self, dict: ObjId, key: Value, value: Value, fuel: &mut Fuel) -> Op<()>
         ensures meant { UnlessMemory result (changes (dict_put dict key value) self.old fuel.old ≡ (result, self.new, fuel.new)) }
         ensures unchanged { UnlessDone result (self.new ≡ self.old) }
+        ensures sound { IsTrue (sound_world self.old) → IsTrue (sound (dicts self.old) key) → IsTrue (sound (dicts self.old) value) → IsTrue (sound_world self.new) }
     {
         if !pay_key(&key, fuel) {
             drop(key);
@@ -60,6 +61,7 @@ impl Objects {
     pub fn dict_delete(&mut self, dict: ObjId, key: &Value, fuel: &mut Fuel) -> Op<Value>
         ensures meant { UnlessMemory result (changes (dict_delete dict key.now) self.old fuel.old ≡ (result, self.new, fuel.new)) }
         ensures unchanged { UnlessDone result (self.new ≡ self.old) }
+        ensures sound { IsTrue (sound_world self.old) → IsTrue (sound_world self.new) }
     {
         if !pay_deletion(key, self.pairs(dict), fuel) {
             return Op::OutOfSteps;
@@ -77,6 +79,7 @@ impl Objects {
     fn put_pair(&mut self, dict: ObjId, key: Value, value: Value) -> Result<(), Memory>
         ensures ok { OnOk result (self.new ≡ with_object self.old dict (put_pair key value (object_at self.old dict))) }
         ensures err { OnErr result (self.new ≡ self.old) }
+        ensures sound { IsTrue (sound_world self.old) → IsTrue (sound (dicts self.old) key) → IsTrue (sound (dicts self.old) value) → IsTrue (sound_world self.new) }
     {
         let mut object = self.take(dict);
         let answer = put_pair(&mut object, key, value);
@@ -88,6 +91,7 @@ impl Objects {
     fn delete_pair(&mut self, dict: ObjId, key: &Value) -> Op<Value>
         ensures meant { UnlessMemory result ((left : ℕ) → changes (on_object dict (delete_pair key.now)) self.old left ≡ (result, self.new, left)) }
         ensures unchanged { UnlessDone result (self.new ≡ self.old) }
+        ensures sound { IsTrue (sound_world self.old) → IsTrue (sound_world self.new) }
     {
         let mut object = self.take(dict);
         let answer = delete_pair(&mut object, key);

@@ -1,6 +1,7 @@
 // A new dict from pairs.
-ghost use Rattle.std.specs.Prelude.{◌≡◌, ◌-◌, nat_le, if◌then◌else◌, [], map, IfOk, OnErr};
-ghost use Rattle.std.specs.List.{sum_by};
+ghost use Rattle.std.specs.Prelude.{◌≡◌, IsTrue, ◌&&◌, ◌-◌, nat_le, if◌then◌else◌, [], map, IfOk, OnErr};
+ghost use Rattle.std.specs.List.{sum_by, list_all};
+ghost use Rattle.py_meaning.specs.Worlds.{sound_world, sound, dicts};
 ghost use Rattle.py_meaning.specs.Steps.{changes, UnlessMemory, UnlessDone};
 ghost use Rattle.py_meaning.specs.Keys.{key_cost, as_key, all_keys};
 ghost use Rattle.py_meaning.specs.Operations.{made, put_all, make_dict};
@@ -18,6 +19,7 @@ impl Objects {
     pub fn make_dict(&mut self, pairs: &[(Value, Value)], fuel: &mut Fuel) -> Op<ObjId>
         ensures meant { UnlessMemory result (changes (make_dict pairs.now) self.old fuel.old ≡ (result, self.new, fuel.new)) }
         ensures unchanged { UnlessDone result (self.new ≡ self.old) }
+        ensures sound { IsTrue (sound_world self.old) → IsTrue (list_all (λ pair. sound (dicts self.old) pair.0 && sound (dicts self.old) pair.1) pairs.now) → IsTrue (sound_world self.new) }
     {
         if !pay_keys(pairs, fuel) {
             return Op::OutOfSteps;
@@ -37,6 +39,7 @@ impl Objects {
     fn add_dict(&mut self, pairs: &[(Value, Value)]) -> Result<ObjId, Memory>
         ensures ok { IfOk result (λ id. made (put_all pairs.now (Object.Dict [] 0)) self.old ≡ (id, self.new)) }
         ensures err { OnErr result (self.new ≡ self.old) }
+        ensures sound { IsTrue (sound_world self.old) → IsTrue (list_all (λ pair. sound (dicts self.old) pair.0 && sound (dicts self.old) pair.1) pairs.now) → IsTrue (sound_world self.new) }
     {
         let dict = dict_of(self.alloc, pairs)?;
         self.make(dict)

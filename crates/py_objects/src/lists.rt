@@ -1,5 +1,7 @@
 // Lists: made, written, grown and shortened.
-ghost use Rattle.std.specs.Prelude.{◌≡◌, ℕ, IfOk};
+ghost use Rattle.std.specs.Prelude.{◌≡◌, ℕ, IsTrue, IfOk};
+ghost use Rattle.std.specs.List.{list_all};
+ghost use Rattle.py_meaning.specs.Worlds.{sound_world, sound, dicts};
 ghost use Rattle.py_meaning.specs.Steps.{changes, UnlessMemory, UnlessDone};
 ghost use Rattle.py_meaning.specs.Operations.{make_list, list_set, list_insert, list_remove, list_extend, set_item, insert_item, remove_item, extend_items};
 
@@ -24,6 +26,7 @@ impl Objects {
     pub fn make_list(&mut self, items: &[Value], fuel: &mut Fuel) -> Op<ObjId>
         ensures meant { UnlessMemory result (changes (make_list items.now) self.old fuel.old ≡ (result, self.new, fuel.new)) }
         ensures unchanged { UnlessDone result (self.new ≡ self.old) }
+        ensures sound { IsTrue (sound_world self.old) → IsTrue (list_all (sound (dicts self.old)) items.now) → IsTrue (sound_world self.new) }
     {
         if !fuel.take(items.len() as u64) {
             return Op::OutOfSteps;
@@ -42,6 +45,7 @@ impl Objects {
     pub fn list_set(&mut self, list: ObjId, at: PyInt, value: Value) -> Op<()>
         ensures meant { UnlessMemory result ((left : ℕ) → changes (list_set list at value) self.old left ≡ (result, self.new, left)) }
         ensures unchanged { UnlessDone result (self.new ≡ self.old) }
+        ensures sound { IsTrue (sound_world self.old) → IsTrue (sound (dicts self.old) value) → IsTrue (sound_world self.new) }
     {
         let mut object = self.take(list);
         let answer = set_item(&mut object, at, value);
@@ -53,6 +57,7 @@ impl Objects {
     pub fn list_insert(&mut self, list: ObjId, at: PyInt, value: Value, fuel: &mut Fuel) -> Op<()>
         ensures meant { UnlessMemory result (changes (list_insert list at value) self.old fuel.old ≡ (result, self.new, fuel.new)) }
         ensures unchanged { UnlessDone result (self.new ≡ self.old) }
+        ensures sound { IsTrue (sound_world self.old) → IsTrue (sound (dicts self.old) value) → IsTrue (sound_world self.new) }
     {
         let mut object = self.take(list);
         let answer = insert_item(&mut object, at, value, fuel);
@@ -64,6 +69,7 @@ impl Objects {
     pub fn list_remove(&mut self, list: ObjId, at: PyInt, fuel: &mut Fuel) -> Op<Value>
         ensures meant { UnlessMemory result (changes (list_remove list at) self.old fuel.old ≡ (result, self.new, fuel.new)) }
         ensures unchanged { UnlessDone result (self.new ≡ self.old) }
+        ensures sound { IsTrue (sound_world self.old) → IsTrue (sound_world self.new) }
     {
         let mut object = self.take(list);
         let answer = remove_item(&mut object, at, fuel);
@@ -75,6 +81,7 @@ impl Objects {
     pub fn list_extend(&mut self, list: ObjId, items: &[Value], fuel: &mut Fuel) -> Op<()>
         ensures meant { UnlessMemory result (changes (list_extend list items.now) self.old fuel.old ≡ (result, self.new, fuel.new)) }
         ensures unchanged { UnlessDone result (self.new ≡ self.old) }
+        ensures sound { IsTrue (sound_world self.old) → IsTrue (list_all (sound (dicts self.old)) items.now) → IsTrue (sound_world self.new) }
     {
         let mut object = self.take(list);
         let answer = extend_items(self.alloc, &mut object, items, fuel);

@@ -1,4 +1,6 @@
-use Rattle.py_meaning.specs.Operations.{remove_item}
+use Rattle.py_meaning.specs.Operations.{remove_item, on_object}
+use Rattle.py_meaning.specs.Worlds.{dicts, object_at}
+use Rattle.py_objects.proofs.Keeping.{kept, keeps_on_object, remove_item_keeps, object_sound}
 use Rattle.py_objects.proofs.Writes.{written, unwritten}
 use Rattle.py_objects.proofs.objects.Objects.list_remove.Goals as goal
 
@@ -7,3 +9,7 @@ returns-clause-meant c = written _ _ _ _ _ _ c.take-object.ensures.object c.take
 
 pub returns-clause-unchanged : goal.returns-clause-unchanged
 returns-clause-unchanged c = unwritten _ _ _ _ _ _ c.take-object.ensures.object c.take-object.ensures.rest c.put.ensures _ c.remove_item-answer.ensures.unchanged
+
+pub returns-clause-sound : goal.returns-clause-sound
+returns-clause-sound c h = let world = c.args.self.now in
+    kept world _ (on_object c.args.list (remove_item c.args.at) world) c.args.fuel.now c.remove_item-answer.new.fuel _ (keeps_on_object world c.args.list (remove_item c.args.at) h (remove_item_keeps (dicts world) c.args.at (object_at world c.args.list) (object_sound world c.args.list h))) h (returns-clause-meant c) (returns-clause-unchanged c)

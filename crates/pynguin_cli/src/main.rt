@@ -36,11 +36,20 @@ fn words_of<R: Env + AllocGlobal>(rt: &R) -> io::Result<Vec<Text>> {
     Ok(words)
 }
 
+// How the program ends where its words can't be had: one that isn't text is refused.
+fn unread_words(error: &io::Error) -> Status {
+    match error.kind() {
+        io::ErrorKind::OutOfMemory => Status::OutOfMemory,
+        _ => Status::BadWords,
+    }
+}
+
 fn main(rt: HostRuntime) -> ExitCode {
-    let Ok(words) = words_of(&rt) else {
-        return ExitCode::from(2);
-    };
     let alloc = rt.alloc();
+    let words = match words_of(&rt) {
+        Ok(words) => words,
+        Err(error) => return ExitCode::from(unread_words(&error).code()),
+    };
     let mut desk = RealDesk::new(rt);
     let status = pynguin(alloc, words.as_slice(), &mut desk);
     ExitCode::from(status.code())

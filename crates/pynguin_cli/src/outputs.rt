@@ -38,8 +38,8 @@ pub fn read_module(alloc: Global, text: &[u8]) -> Result<Module, Refusal>
 
 /// The suite and the report of a module of the first form, in the order in which they are written.
 pub fn outputs_of(alloc: Global, job: &Job, module: &Module) -> Result<Vec<Output>, Memory>
-    requires { IsFirst module.now }
-    ensures { IfOk result (λ outputs. outputs.items ≡ outputs_for job.now module.now) }
+    requires { IsFirst «module».now }
+    ensures { IfOk result (λ outputs. outputs.items ≡ outputs_for job.now «module».now) }
 {
     let suite = write_calls(alloc, module, job.name.as_str())?;
     let report = judge_calls(alloc, module, &job.name)?;

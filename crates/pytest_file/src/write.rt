@@ -58,7 +58,7 @@ fn write_tests(text: &mut Text, items: &[Item]) -> Result<(), Memory>
 /// The text of the suite that calls each function of a module without arguments, in order: `import NAME as module_0`,
 /// and one test `var_0 = module_0.FUNCTION()` for each.
 pub fn write_calls(alloc: Global, module: &Module, name: &str) -> Result<Text, Memory>
-    ensures { IfOk result (λ text. text ≡ suite_text module.now (calls_suite (chars name.now) module.now)) }
+    ensures { IfOk result (λ text. text ≡ suite_text «module».now (calls_suite (chars name.now) «module».now)) }
 {
     let mut text = Text::new(alloc);
     write_imports(&mut text, name)?;

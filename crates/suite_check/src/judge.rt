@@ -82,8 +82,8 @@ fn judge_items(
 /// The report of the suite that calls each function of a module of the first form once, under this name of the module: with
 /// `STEPS` steps for each statement, and without mutants.
 pub fn judge_calls(alloc: Global, module: &Module, name: &Name) -> Result<Report, Memory>
-    requires { IsFirst module.now }
-    ensures { IfOk result (λ report. report ≡ judged module.now (calls_suite name.now module.now) 20000 0) }
+    requires { IsFirst «module».now }
+    ensures { IfOk result (λ report. report ≡ judged «module».now (calls_suite name.now «module».now) 20000 0) }
 {
     let mut tests = Items::new(alloc);
     let mut goals = Items::new(alloc);

@@ -6,6 +6,9 @@ use pyn_base::Construct;
 use std::alloc::Global;
 use std::test::Fail;
 
+// The most bytes that a module may have.
+const MOST_BYTES: usize = 262_144;
+
 fn is_refused(answer: &Result<Module, Refusal>, line: u64) -> bool {
     match answer {
         Ok(_) => false,
@@ -88,8 +91,10 @@ fn other_texts_are_refused_at_their_line(rt: HostRuntime) -> Result<(), Fail> {
 fn as_many_functions_as_may_be_are_read(rt: HostRuntime) -> Result<(), Fail> {
     let alloc = rt.alloc();
     let most = module(alloc, 2000, 2)?;
+    assert!(rt; most.len() <= MOST_BYTES);
     assert_eq!(rt; count(&read_first(alloc, most.as_bytes())), Some(2000));
     let more = module(alloc, 2001, 2)?;
+    assert!(rt; more.len() <= MOST_BYTES);
     assert!(rt; is_refused(&read_first(alloc, more.as_bytes()), 7999));
     Ok(())
 }

@@ -1,9 +1,10 @@
 -- A sound value stays so where objects are added.
 use Rattle.std.proofs.Common.{◌≡◌, ℕ, zero, suc, ◌+◌, ◌<◌, Bool, true, false, ◌&&◌, List, [], ◌∷◌, ◌++◌, map, refl, sym, ◌∙◌, ap, length, arith, length-append}
-use Rattle.std.specs.Prelude.{slice_index_or, slice_get, slice_set, remove, take, drop, nat_lt, nat_le, Option, Some, None, IsTrue}
+use Rattle.std.specs.Prelude.{slice_index_or, slice_get, slice_set, remove, take, drop, reverse, nat_lt, nat_le, Option, Some, None, IsTrue}
 use Rattle.std.specs.List.{list_all, insert}
 use Rattle.py_meaning.specs.Lists.{with_second}
 use Rattle.py_meaning.specs.Values.{depth, tuple_limit}
+use Rattle.std.proofs.lemmas.List.{reverse-append}
 use Rattle.std.proofs.lemmas.Bool.Decides.{nat_tests}
 use Rattle.py_meaning.specs.declared.value.Value.{Value, Value-F, out-Value, ind-Value, fold-roll-Value, roll-Value}
 use Rattle.py_meaning.specs.declared.value.Value.TheFolds.{map-Value}
@@ -103,6 +104,10 @@ module _ {A : Type 0} (p : A → Bool) where
 
   pub all_remove : (xs : List A) (at : ℕ) → IsTrue (list_all p xs) → IsTrue (list_all p (remove xs at))
   all_remove xs at h = all_join (take at xs) (drop (suc at) xs) (all_take at xs h) (all_drop (suc at) xs h)
+
+  pub all_reverse : (xs : List A) → IsTrue (list_all p xs) → IsTrue (list_all p (reverse xs))
+  all_reverse [] h = refl
+  all_reverse (x ∷ xs) h = ap (list_all p) (reverse-append (x ∷ []) xs) ∙ all_join (reverse xs) (x ∷ []) (all_reverse xs (second (p x) (list_all p xs) h)) (all_one x (first (p x) (list_all p xs) h))
 
   pub all_insert : (xs : List A) (at : ℕ) (x : A) → IsTrue (list_all p xs) → IsTrue (p x) → IsTrue (list_all p (insert xs at x))
   all_insert xs at x h k = all_join (take at xs) (x ∷ drop at xs) (all_take at xs h) (both (p x) (list_all p (drop at xs)) k (all_drop at xs h))

@@ -1,5 +1,5 @@
 -- What each call of a table of objects does to the world, one function a call.
-use Rattle.std.specs.Prelude.{ℕ, ◌+◌, ◌-◌, min, ℤ, pos, negsuc, nat_lt, if◌then◌else◌, bytes_eq, List, [], ◌∷◌, ◌++◌, length, map, slice_get, slice_set, remove, Option, Some, None}
+use Rattle.std.specs.Prelude.{ℕ, ◌+◌, ◌-◌, min, ℤ, pos, negsuc, nat_lt, if◌then◌else◌, bytes_eq, List, [], ◌∷◌, ◌++◌, length, map, slice_get, slice_set, remove, Option, Some, None, reverse, ◌^◌}
 use Rattle.std.specs.List.{position, insert, sum_by}
 use Rattle.std.specs.Option.{option_map}
 use Rattle.pyn_base.specs.declared.class.BuiltClass.TheVariants.{IndexError, KeyError}
@@ -88,6 +88,15 @@ abbrev pub remove_item : ℤ → Change Object Value
 remove_item at (object.List items) = costs (length items) (remove_at items (index_place at (length items)))
 remove_item at other = raises IndexError
 
+-- the last item
+abbrev pub pop_item : Change Object Value
+pop_item (object.List items) = costs 1 (remove_at items (index_place (negsuc 0) (length items)))
+pop_item other = raises IndexError
+
+abbrev pub reverse_items : Change Object (Unit {0})
+reverse_items (object.List items) = costs (length items) (done (tt, object.List (reverse items)))
+reverse_items other = done (tt, other)
+
 abbrev pub extend_items : List Value → Change Object (Unit {0})
 extend_items more (object.List items) = costs (length more) (done (tt, object.List (items ++ more)))
 extend_items more other = done (tt, other)
@@ -100,6 +109,12 @@ list_insert list at new = on_object list (insert_item at new)
 
 abbrev pub list_remove : ObjId → ℤ → Change World Value
 list_remove list at = on_object list (remove_item at)
+
+abbrev pub list_pop : ObjId → Change World Value
+list_pop list = on_object list pop_item
+
+abbrev pub list_reverse : ObjId → Change World (Unit {0})
+list_reverse list = on_object list reverse_items
 
 abbrev pub list_extend : ObjId → List Value → Change World (Unit {0})
 list_extend list more = on_object list (extend_items more)
@@ -157,6 +172,10 @@ put_all (pair ∷ pairs) dict = put_all pairs (put_pair pair.0 pair.1 dict)
 abbrev pub make_dict : Pairs → Change World ObjId
 make_dict pairs world = costs (sum_by (λ pair. key_cost pair.0) pairs) (for_key (all_keys (map (λ pair. as_key world pair.0) pairs))
     (done (made (put_all pairs (object.Dict [] 0)) world)))
+
+-- A copy holds the same pairs, put one after another.
+abbrev pub dict_copy : ObjId → Change World ObjId
+dict_copy dict world = costs (length (pairs world dict)) (done (made (object.Dict (pairs world dict) (min (length (pairs world dict)) (2 ^ 64 - 1))) world))
 
 -- Instances.
 

@@ -1,5 +1,5 @@
 // A list that grows and shrinks in place.
-ghost use Rattle.std.specs.Prelude.{◌≡◌, ◌<◌, ◌≤◌, ◌^◌, [], ◌∷◌, ◌++◌, length, take, slice_get, slice_set, remove, OnOk, OnErr};
+ghost use Rattle.std.specs.Prelude.{◌≡◌, ◌<◌, ◌≤◌, ◌^◌, [], ◌∷◌, ◌++◌, length, take, reverse, slice_get, slice_set, remove, OnOk, OnErr};
 ghost use Rattle.std.specs.List.{insert};
 ghost use Rattle.std.specs.Option.{option_copied};
 ghost use Rattle.py_meaning.specs.Lists.{with_second};
@@ -100,6 +100,13 @@ impl<T: Drop> Sequence<T> {
         ensures rest { self.new ≡ remove self.old at }
     {
         self.items.remove(at)
+    }
+
+    /// Turns the items round.
+    pub fn reverse(&mut self)
+        ensures { self.new ≡ reverse self.old }
+    {
+        self.items.reverse();
     }
 
     pub fn set(&mut self, at: usize, item: T)

@@ -1,5 +1,5 @@
 -- Each operation keeps a world sound.
-use Rattle.std.proofs.Common.{◌≡◌, ℕ, zero, suc, Bool, true, false, ◌&&◌, List, [], ◌∷◌, ◌++◌, map, refl, sym, ◌∙◌, ap, length, take, drop, Option, Some, None, nat_le, ◌+◌, ◌-◌, ℤ, if◌then◌else◌}
+use Rattle.std.proofs.Common.{◌≡◌, ℕ, zero, suc, Bool, true, false, ◌&&◌, List, [], ◌∷◌, ◌++◌, map, refl, sym, ◌∙◌, ap, length, take, drop, reverse, negsuc, Option, Some, None, nat_le, ◌+◌, ◌-◌, ℤ, if◌then◌else◌}
 use Rattle.std.proofs.lemmas.List.{map-append}
 use Rattle.std.specs.Prelude.{slice_get, slice_set, remove, Result, Ok, Err, OnOk, OnErr, IsTrue}
 use Rattle.std.specs.List.{list_all, insert}
@@ -13,11 +13,11 @@ use Rattle.py_meaning.specs.declared.op.Op.TheVariants as op
 use Rattle.py_meaning.specs.declared.value.Value.{Value}
 use Rattle.py_meaning.specs.Lists.{with_second}
 use Rattle.py_meaning.specs.Steps.{Costing, Change, changes, settle, go_on, done, raises, costs, UnlessMemory, UnlessDone}
-use Rattle.py_meaning.specs.Worlds.{elements, elements_of, World, Pairs, Attributes, object_at, or_nothing, with_object, dicts, is_dict, sound, sound_object, sound_args, sound_world}
+use Rattle.py_meaning.specs.Worlds.{elements, elements_of, pairs, pairs_of, World, Pairs, Attributes, object_at, or_nothing, with_object, dicts, is_dict, sound, sound_object, sound_args, sound_world}
 use Rattle.py_meaning.specs.Keys.{key_place}
-use Rattle.py_meaning.specs.Operations.{made, on_object, set_item, set_at, index_place, insert_item, insert_place, remove_item, remove_at, taken_at, extend_items, put_pair, put_at, put_all, delete_pair, delete_at, taken_pair, for_key, set_attribute, with_attribute, attribute_place, with_args, cleared}
+use Rattle.py_meaning.specs.Operations.{made, on_object, set_item, set_at, index_place, insert_item, insert_place, pop_item, reverse_items, remove_item, remove_at, taken_at, extend_items, put_pair, put_at, put_all, delete_pair, delete_at, taken_pair, for_key, set_attribute, with_attribute, attribute_place, with_args, cleared}
 use Rattle.py_objects.proofs.Writes.{unless_memory}
-use Rattle.py_meaning.proofs.Soundness.{both, first, second, stays_sound, all_join, all_one, all_set, all_remove, all_insert, all_got, all_weaker, all_second, all_second_alone}
+use Rattle.py_meaning.proofs.Soundness.{both, first, second, stays_sound, all_join, all_one, all_set, all_remove, all_reverse, all_insert, all_got, all_weaker, all_second, all_second_alone}
 
 -- Objects of a world that grows.
 
@@ -160,6 +160,17 @@ module _ (marks : List Bool) where
   extend_items_keeps more (object.Dict pairs changes) h k = λ left. (refl, h)
   extend_items_keeps more (object.Instance class attributes args) h k = λ left. (refl, h)
 
+  pub pop_item_keeps : (o : Object) → IsTrue (sound_object marks o) → Keeps (Stays marks o) o (pop_item o)
+  pop_item_keeps (object.List items) h = keeps_costs (Stays marks (object.List items)) (object.List items) (refl, h) 1 (remove_at items (index_place (negsuc 0) (length items))) (remove_keeps items (index_place (negsuc 0) (length items)) h)
+  pop_item_keeps (object.Dict pairs changes) h = λ left. (refl, h)
+  pop_item_keeps (object.Instance class attributes args) h = λ left. (refl, h)
+
+  pub reverse_items_keeps : (o : Object) → IsTrue (sound_object marks o) → Keeps (Stays marks o) o (reverse_items o)
+  reverse_items_keeps (object.List items) h = keeps_costs (Stays marks (object.List items)) (object.List items) (refl, h) (length items) (done (tt {0}, object.List (reverse items)))
+      (keeps_done (Stays marks (object.List items)) (object.List items) (refl, h) (tt {0}) (object.List (reverse items)) (refl, all_reverse (sound marks) items h))
+  reverse_items_keeps (object.Dict pairs changes) h = λ left. (refl, h)
+  reverse_items_keeps (object.Instance class attributes args) h = λ left. (refl, h)
+
   abbrev pair_sound : Value × Value → Bool
   pair_sound pair = sound marks pair.0 && sound marks pair.1
 
@@ -226,3 +237,12 @@ elements_of_sound marks (object.Instance class attributes args) h = refl
 pub joined_sound : (world : World) (i j : ObjId) (xs ys joined : List Value) → IsTrue (sound_world world) → joined ≡ xs ++ ys → xs ≡ elements world i → ys ≡ elements world j → IsTrue (list_all (sound (dicts world)) joined)
 joined_sound world i j xs ys joined h e ex ey = ap (list_all (sound (dicts world))) (e ∙ ap (λ zs. zs ++ ys) ex ∙ ap (λ zs. elements world i ++ zs) ey)
     ∙ all_join (sound (dicts world)) (elements world i) (elements world j) (elements_of_sound (dicts world) (object_at world i) (object_sound world i h)) (elements_of_sound (dicts world) (object_at world j) (object_sound world j h))
+
+pairs_of_sound : (marks : List Bool) (o : Object) → IsTrue (sound_object marks o) → IsTrue (list_all (λ pair. sound marks pair.0 && sound marks pair.1) (pairs_of o))
+pairs_of_sound marks (object.List items) h = refl
+pairs_of_sound marks (object.Dict pairs n) h = h
+pairs_of_sound marks (object.Instance class attributes args) h = refl
+
+-- a dict with the pairs of another of a sound world
+pub copied_sound : (world : World) (id : ObjId) (copy held : Pairs) (n : ℕ) → IsTrue (sound_world world) → copy ≡ held → held ≡ pairs world id → IsTrue (sound_object (dicts world) (object.Dict copy n))
+copied_sound world id copy held n h e e' = ap (λ ps. sound_object (dicts world) (object.Dict ps n)) (e ∙ e') ∙ pairs_of_sound (dicts world) (object_at world id) (object_sound world id h)

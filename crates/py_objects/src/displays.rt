@@ -1,13 +1,14 @@
-// A new dict from pairs.
+// A new dict from pairs, or from another's.
 ghost use Rattle.std.specs.Prelude.{◌≡◌, IsTrue, ◌&&◌, ◌-◌, nat_le, if◌then◌else◌, [], map, IfOk, OnErr};
 ghost use Rattle.std.specs.List.{sum_by, list_all};
 ghost use Rattle.py_meaning.specs.Worlds.{sound_world, sound, dicts};
 ghost use Rattle.py_meaning.specs.Steps.{changes, UnlessMemory, UnlessDone};
 ghost use Rattle.py_meaning.specs.Keys.{key_cost, as_key, all_keys};
-ghost use Rattle.py_meaning.specs.Operations.{made, put_all, make_dict};
+ghost use Rattle.py_meaning.specs.Operations.{made, put_all, make_dict, dict_copy};
 ghost use Rattle.py_objects.specs.Within.{within};
 
 use crate::dicts::put_pair;
+use crate::fork::shared_pairs;
 use crate::keys::key_cost_within;
 use crate::{Object, Objects, Op, Sequence, Value};
 use pyn_base::{Fuel, Memory, ObjId};
@@ -33,6 +34,26 @@ impl Objects {
             Op::Leaves(construct) => Op::Leaves(construct),
             Op::OutOfSteps => Op::OutOfSteps,
             Op::Memory => Op::Memory,
+        }
+    }
+
+    /// A new dict with another's pairs, at a step for each.
+    pub fn dict_copy(&mut self, dict: ObjId, fuel: &mut Fuel) -> Op<ObjId>
+        ensures meant { UnlessMemory result (changes (dict_copy dict) self.old fuel.old ≡ (result, self.new, fuel.new)) }
+        ensures unchanged { UnlessDone result (self.new ≡ self.old) }
+        ensures sound { IsTrue (sound_world self.old) → IsTrue (sound_world self.new) }
+    {
+        let count = self.pairs(dict).len() as u64;
+        if !fuel.take(count) {
+            return Op::OutOfSteps;
+        }
+        let pairs = match shared_pairs(self.alloc, self.pairs(dict)) {
+            Ok(pairs) => pairs,
+            Err(Memory) => return Op::Memory,
+        };
+        match self.make(Object::Dict(Sequence::from_vec(pairs), count)) {
+            Ok(id) => Op::Done(id),
+            Err(Memory) => Op::Memory,
         }
     }
 

@@ -47,7 +47,10 @@ fn copied(alloc: Global, object: &Object) -> Result<Object, Memory>
     })
 }
 
-fn shared_pairs(alloc: Global, pairs: &[(Value, Value)]) -> Result<Vec<(Value, Value)>, Memory>
+pub(crate) fn shared_pairs(
+    alloc: Global,
+    pairs: &[(Value, Value)],
+) -> Result<Vec<(Value, Value)>, Memory>
     ensures { IfOk result (λ shared. shared.items ≡ pairs.now) }
 {
     let mut shared = Vec::new(alloc);

@@ -3,7 +3,7 @@ ghost use Rattle.std.specs.Prelude.{◌≡◌, ℕ, IsTrue, IfOk};
 ghost use Rattle.std.specs.List.{list_all};
 ghost use Rattle.py_meaning.specs.Worlds.{sound_world, sound, dicts};
 ghost use Rattle.py_meaning.specs.Steps.{changes, UnlessMemory, UnlessDone};
-ghost use Rattle.py_meaning.specs.Operations.{make_list, list_set, list_insert, list_remove, list_extend, set_item, insert_item, remove_item, extend_items};
+ghost use Rattle.py_meaning.specs.Operations.{make_list, list_set, list_insert, list_remove, list_extend, set_item, insert_item, remove_item, extend_items, list_pop, list_reverse, pop_item, reverse_items};
 
 use crate::places::{index_place, insert_place};
 use crate::{Object, Objects, Op, Sequence, Value};
@@ -73,6 +73,30 @@ impl Objects {
     {
         let mut object = self.take(list);
         let answer = remove_item(&mut object, at, fuel);
+        self.put(list, object);
+        answer
+    }
+
+    /// Takes the last item out, at one step. An empty list raises IndexError.
+    pub fn list_pop(&mut self, list: ObjId, fuel: &mut Fuel) -> Op<Value>
+        ensures meant { UnlessMemory result (changes (list_pop list) self.old fuel.old ≡ (result, self.new, fuel.new)) }
+        ensures unchanged { UnlessDone result (self.new ≡ self.old) }
+        ensures sound { IsTrue (sound_world self.old) → IsTrue (sound_world self.new) }
+    {
+        let mut object = self.take(list);
+        let answer = pop_item(&mut object, fuel);
+        self.put(list, object);
+        answer
+    }
+
+    /// Turns a list's items round, at a step for each.
+    pub fn list_reverse(&mut self, list: ObjId, fuel: &mut Fuel) -> Op<()>
+        ensures meant { UnlessMemory result (changes (list_reverse list) self.old fuel.old ≡ (result, self.new, fuel.new)) }
+        ensures unchanged { UnlessDone result (self.new ≡ self.old) }
+        ensures sound { IsTrue (sound_world self.old) → IsTrue (sound_world self.new) }
+    {
+        let mut object = self.take(list);
+        let answer = reverse_items(&mut object, fuel);
         self.put(list, object);
         answer
     }
@@ -168,6 +192,42 @@ fn extend_items(alloc: Global, object: &mut Object, more: &[Value], fuel: &mut F
                 },
                 Err(Memory) => Op::Memory,
             }
+        }
+        _ => Op::Done(()),
+    }
+}
+
+fn pop_item(object: &mut Object, fuel: &mut Fuel) -> Op<Value>
+    ensures meant { UnlessMemory result (changes pop_item object.old fuel.old ≡ (result, object.new, fuel.new)) }
+    ensures unchanged { UnlessDone result (object.new ≡ object.old) }
+{
+    match object {
+        Object::List(items) => {
+            if !fuel.take(1) {
+                return Op::OutOfSteps;
+            }
+            let count = items.len();
+            if count > 0 {
+                Op::Done(items.remove(count - 1))
+            } else {
+                Op::Raises(BuiltClass::IndexError)
+            }
+        }
+        _ => Op::Raises(BuiltClass::IndexError),
+    }
+}
+
+fn reverse_items(object: &mut Object, fuel: &mut Fuel) -> Op<()>
+    ensures meant { UnlessMemory result (changes reverse_items object.old fuel.old ≡ (result, object.new, fuel.new)) }
+    ensures unchanged { UnlessDone result (object.new ≡ object.old) }
+{
+    match object {
+        Object::List(items) => {
+            if !fuel.take(items.len() as u64) {
+                return Op::OutOfSteps;
+            }
+            items.reverse();
+            Op::Done(())
         }
         _ => Op::Done(()),
     }

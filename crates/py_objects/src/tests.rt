@@ -115,7 +115,10 @@ fn true_is_the_key_one(rt: HostRuntime) -> Result<(), Fail> {
     assert!(rt; is_text(Some(&taken), &['b']));
     assert_eq!(rt; objects.key_changes(dict), 2);
     done(objects.dict_put(dict, int(3), int(4), &mut fuel))?;
+    let copy = done(objects.dict_copy(dict, &mut fuel))?;
+    assert_eq!(rt; objects.size(copy), 1);
     objects.clear(dict)?;
+    assert_eq!(rt; objects.size(copy), 1);
     assert_eq!(rt; objects.key_changes(dict), 4);
     assert_eq!(rt; objects.size(dict), 0);
     Ok(())
@@ -216,10 +219,18 @@ fn lists_grow_and_shrink(rt: HostRuntime) -> Result<(), Fail> {
             BuiltClass::IndexError
         )
     );
+    done(objects.list_reverse(list, &mut fuel))?;
+    assert!(rt; is_int(objects.list_get(list, PyInt::from(0)), 6));
+    assert_eq!(rt; fuel.left(), 90);
     let list = Value::Ref(list);
     let sum = done(objects.add(&list, &list, &mut fuel))?;
-    assert_eq!(rt; fuel.left(), 88);
+    assert_eq!(rt; fuel.left(), 86);
     assert_eq!(rt; done(objects.walk(&sum, &mut fuel))?.len(), 4);
+    if let Value::Ref(id) = sum {
+        let last = done(objects.list_pop(id, &mut fuel))?;
+        assert!(rt; is_int(Some(&last), 7));
+        assert_eq!(rt; objects.size(id), 3);
+    }
     let mut few = Fuel::new(3);
     match objects.add(&list, &list, &mut few) {
         Op::OutOfSteps => assert_eq!(rt; few.left(), 3),

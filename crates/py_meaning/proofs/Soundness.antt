@@ -1,12 +1,12 @@
 -- A sound value stays so where objects are added.
-use Rattle.std.proofs.Common.{◌≡◌, ℕ, zero, suc, ◌+◌, ◌<◌, Bool, true, false, ◌&&◌, List, [], ◌∷◌, ◌++◌, map, refl, sym, ◌∙◌, ap, length, arith, length-append}
-use Rattle.std.specs.Prelude.{slice_index_or, slice_get, slice_set, remove, take, drop, reverse, nat_lt, nat_le, Option, Some, None, IsTrue}
+use Rattle.std.proofs.Common.{◌≡◌, ℕ, zero, suc, Bool, true, false, ◌&&◌, List, [], ◌∷◌, ◌++◌, map, refl, sym, ◌∙◌, ap, length, arith, length-append}
+use Rattle.std.specs.Prelude.{slice_index_or, slice_get, slice_set, remove, take, drop, reverse, nat_lt, nat_le, Some, IsTrue}
 use Rattle.std.specs.List.{list_all, insert}
 use Rattle.py_meaning.specs.Lists.{with_second}
 use Rattle.py_meaning.specs.Values.{depth, tuple_limit}
 use Rattle.std.proofs.lemmas.List.{reverse-append}
 use Rattle.std.proofs.lemmas.Bool.Decides.{nat_tests}
-use Rattle.py_meaning.specs.declared.value.Value.{Value, Value-F, out-Value, ind-Value, fold-roll-Value, roll-Value}
+use Rattle.py_meaning.specs.declared.value.Value.{Value, Value-F, ind-Value, fold-roll-Value, roll-Value}
 use Rattle.py_meaning.specs.declared.value.Value.TheFolds.{map-Value}
 use Rattle.py_meaning.specs.declared.value.View.{View}
 use Rattle.py_meaning.specs.declared.value.View.TheVariants.{Range, Keys, Values, Items}

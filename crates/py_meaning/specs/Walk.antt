@@ -1,5 +1,5 @@
 -- What is walked, and what counts as true (the manual, "Truth Value Testing", "Iterator Types", "Ranges").
-use Rattle.std.specs.Prelude.{ℕ, zero, suc, ℤ, pos, ◌+ℤ◌, Bool, true, false, not, nat_le, if◌then◌else◌, ◌==◌, List, [], ◌∷◌, length, map, Option, Some, None}
+use Rattle.std.specs.Prelude.{ℕ, zero, suc, ℤ, pos, ◌+ℤ◌, Bool, true, false, not, nat_le, if◌then◌else◌, ◌==◌, List, [], ◌∷◌, length, map, Option, Some, None, ◌||◌}
 use Rattle.std.specs.List.{list_all}
 use Rattle.std.specs.Ordering.{int_eq}
 use Rattle.pyn_base.specs.declared.class.BuiltClass.TheVariants.{TypeError}
@@ -87,10 +87,18 @@ walked world x = walked_by world (out-Value x)
 abbrev pub shallow : List Value → Bool
 shallow items = list_all (λ item. nat_le (depth item) tuple_limit) items
 
-abbrev pub walk_over : Option (List Value) → Costing (List Value)
-walk_over None = raises TypeError
-walk_over (Some items) = costs (length items) (if shallow items then done items else leaves construct.TupleDepth)
+abbrev pub gives_new_tuples : Value-F Value → Bool
+gives_new_tuples (Value-F.View (Items dict)) = true
+gives_new_tuples _ = false
 
--- All elements are taken at once, a step for each. One that would be too deep a tuple leaves.
+-- An element that a view of items makes may be too deep a tuple. Other elements are values that were there.
+abbrev pub taken : Bool → List Value → Costing (List Value)
+taken made items = if not made || shallow items then done items else leaves construct.TupleDepth
+
+abbrev pub walk_over : Bool → Option (List Value) → Costing (List Value)
+walk_over made None = raises TypeError
+walk_over made (Some items) = costs (length items) (taken made items)
+
+-- All elements are taken at once, a step for each.
 abbrev pub walk : World → Value → Costing (List Value)
-walk world x = walk_over (walked world x)
+walk world x = walk_over (gives_new_tuples (out-Value x)) (walked world x)

@@ -1,9 +1,8 @@
 -- Each operation keeps a world sound.
-use Rattle.std.proofs.Common.{◌≡◌, ℕ, zero, suc, Bool, true, false, ◌&&◌, List, [], ◌∷◌, ◌++◌, map, refl, sym, ◌∙◌, ap, length, take, drop, reverse, negsuc, Option, Some, None, nat_le, ◌+◌, ◌-◌, ℤ, if◌then◌else◌}
+use Rattle.std.proofs.Common.{◌≡◌, ℕ, zero, suc, Bool, true, false, ◌&&◌, List, [], ◌∷◌, ◌++◌, refl, sym, ◌∙◌, ap, length, reverse, negsuc, Option, Some, None, nat_le, ◌+◌, ◌-◌, ℤ, if◌then◌else◌}
 use Rattle.std.proofs.lemmas.List.{map-append}
-use Rattle.std.specs.Prelude.{slice_get, slice_set, remove, Result, Ok, Err, OnOk, OnErr, IsTrue}
+use Rattle.std.specs.Prelude.{slice_get, slice_set, Result, Ok, Err, OnOk, OnErr, IsTrue}
 use Rattle.std.specs.List.{list_all, insert}
-use Rattle.pyn_base.specs.declared.class.BuiltClass.{BuiltClass}
 use Rattle.pyn_base.specs.declared.ids.ObjId.{ObjId}
 use Rattle.pyn_base.specs.declared.name.Name.{Name}
 use Rattle.py_meaning.specs.declared.object.Object.{Object}
@@ -11,13 +10,12 @@ use Rattle.py_meaning.specs.declared.object.Object.TheVariants as object
 use Rattle.py_meaning.specs.declared.op.Op.{Op}
 use Rattle.py_meaning.specs.declared.op.Op.TheVariants as op
 use Rattle.py_meaning.specs.declared.value.Value.{Value}
-use Rattle.py_meaning.specs.Lists.{with_second}
-use Rattle.py_meaning.specs.Steps.{Costing, Change, changes, settle, go_on, done, raises, costs, UnlessMemory, UnlessDone}
+use Rattle.py_meaning.specs.Steps.{Costing, Change, changes, settle, go_on, done, costs, UnlessMemory, UnlessDone}
 use Rattle.py_meaning.specs.Worlds.{elements, elements_of, pairs, pairs_of, World, Pairs, Attributes, object_at, or_nothing, with_object, dicts, is_dict, sound, sound_object, sound_args, sound_world}
 use Rattle.py_meaning.specs.Keys.{key_place}
 use Rattle.py_meaning.specs.Operations.{made, on_object, set_item, set_at, index_place, insert_item, insert_place, pop_item, reverse_items, remove_item, remove_at, taken_at, extend_items, put_pair, put_at, put_all, delete_pair, delete_at, taken_pair, for_key, set_attribute, with_attribute, attribute_place, with_args, cleared}
 use Rattle.py_objects.proofs.Writes.{unless_memory}
-use Rattle.py_meaning.proofs.Soundness.{both, first, second, stays_sound, all_join, all_one, all_set, all_remove, all_reverse, all_insert, all_got, all_weaker, all_second, all_second_alone}
+use Rattle.py_meaning.proofs.Soundness.{both, first, second, stays_sound, all_join, all_one, all_set, all_remove, all_reverse, all_insert, all_weaker, all_second, all_second_alone}
 
 -- Objects of a world that grows.
 

@@ -1,9 +1,10 @@
 // What is walked: the items of lists and tuples, the characters of strings, dicts and views.
-ghost use Rattle.std.specs.Prelude.{◌≡◌, ◌∷◌, [], length, if◌then◌else◌, IfOk};
+ghost use Rattle.std.specs.Prelude.{◌≡◌, ◌∷◌, [], ℕ, length, IfOk};
 ghost use Rattle.std.specs.Option.{option_map};
 ghost use Rattle.py_meaning.specs.Steps.{UnlessMemory};
 ghost use Rattle.py_meaning.specs.Values.{range_length};
-ghost use Rattle.py_meaning.specs.Walk.{walk, walked, walked_view, counted, keys_of, values_of, items_of, characters_of, shallow};
+ghost use Rattle.py_meaning.specs.Walk.{walk, walked, walked_view, counted, keys_of, values_of, items_of, characters_of, taken, gives_new_tuples};
+ghost use Rattle.py_meaning.specs.declared.value.Value.{out-Value};
 ghost use Rattle.py_objects.specs.Within.{or_empty};
 
 use crate::depth::are_shallow;
@@ -25,7 +26,7 @@ impl Objects {
             return Op::OutOfSteps;
         }
         match self.walked(value) {
-            Ok(items) => shallow_items(items),
+            Ok(items) => taken(gives_new_tuples(value), items),
             Err(Memory) => Op::Memory,
         }
     }
@@ -92,10 +93,22 @@ impl Objects {
     }
 }
 
-fn shallow_items(items: Vec<Value>) -> Op<Sequence<Value>>
-    ensures { result ≡ (if shallow items.items then Op.Done items.items else Op.Leaves Construct.TupleDepth) }
+/// Whether the elements are tuples that the walk itself makes.
+#[tactic(auto, using(py_meaning::proofs::Folds::views))]
+fn gives_new_tuples(value: &Value) -> bool
+    ensures { result ≡ gives_new_tuples (out-Value value.now) }
 {
-    if are_shallow(items.as_slice()) {
+    match value {
+        Value::View(view) => matches!(view, View::Items(_)),
+        _ => false,
+    }
+}
+
+/// The elements, unless one that the walk makes is too deep a tuple.
+fn taken(made: bool, items: Vec<Value>) -> Op<Sequence<Value>>
+    ensures { (left : ℕ) → taken made items.items left ≡ (result, left) }
+{
+    if !made || are_shallow(items.as_slice()) {
         Op::Done(Sequence::from_vec(items))
     } else {
         drop(items);

@@ -1,0 +1,10 @@
+use Rattle.std.proofs.Common.{length}
+use Rattle.py_language.specs.TreesPlaces.{Disjunction, Conjunction}
+use Rattle.py_shape.proofs.Levels.{Joint, disjunct}
+use Rattle.py_shape.proofs.climb.Climber.disjunction.Given as goal
+
+abbrev pub invariant-loop-mark : goal.invariant-loop-mark
+invariant-loop-mark g l = Joint Disjunction Conjunction disjunct l.limit l.symbols l.all l.most l.rest
+
+abbrev pub decreases-loop-mark : goal.decreases-loop-mark
+decreases-loop-mark g l = length l.rest

@@ -1,0 +1,5 @@
+pub mod Cut
+pub mod Reads
+pub mod Groups
+pub mod Lists
+pub mod Nests

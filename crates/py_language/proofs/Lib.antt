@@ -2,3 +2,4 @@ pub mod FirstFormFronts
 pub mod FirstFormLaws
 pub mod FirstFormLemmas
 pub mod TreesNumbering
+pub mod TokenLaws

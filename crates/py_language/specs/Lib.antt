@@ -9,6 +9,7 @@ pub mod TokensCharacters
 pub mod TokensEncoding
 pub mod TokensExamples
 pub mod TokensFaults
+pub mod TokensLaws
 pub mod TokensLines
 pub mod TokensMarks
 pub mod TokensNames

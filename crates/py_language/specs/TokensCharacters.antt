@@ -1,5 +1,5 @@
 -- The characters of a text and its lines (Language Reference 2.1.2 and 2.1.4).
-use Rattle.std.specs.Prelude.{ℕ, zero, suc, Bool, false, ◌&&◌, ◌||◌, if◌then◌else◌, ◌==◌, nat_eq, nat_le, List, [], ◌∷◌, ◌++◌, take, drop, chars}
+use Rattle.std.specs.Prelude.{ℕ, zero, suc, Bool, false, ◌&&◌, ◌||◌, if◌then◌else◌, ◌==◌, nat_eq, nat_le, List, [], ◌∷◌, ◌++◌, take, drop, length, take_while, chars}
 use Rattle.std.specs.List.{starts_with}
 use Rattle.std.specs.Str.{is_utf8, continuation_len}
 
@@ -62,16 +62,20 @@ lines_of text = with_line_feeds (without_order_mark text ++ missing_end (without
 abbrev pub not_utf8 : ℕ
 not_utf8 = 0x110000
 
--- the bytes of the character at the front, as many as its first byte says
-abbrev pub front_bytes : ℕ → List ℕ → List ℕ
-front_bytes b bs = b ∷ take (continuation_len b) bs
+-- behind a first byte: the bytes of its character, as many as it says, up to one that is ASCII
+abbrev pub more_bytes : ℕ → List ℕ → List ℕ
+more_bytes b bs = take (continuation_len b) (take_while (λ c. nat_le 128 c) bs)
+
+-- whether the first byte and those make up a character
+abbrev pub is_character : ℕ → List ℕ → Bool
+is_character b bs = is_utf8 (b ∷ more_bytes b bs)
 
 -- The characters that bytes spell in UTF-8. The first n bytes belong to the character before. A byte at which no
 -- character stands is read alone.
 abbrev pub decoded_behind : ℕ → List ℕ → List ℕ
 decoded_behind n [] = []
 decoded_behind (suc n) (b ∷ bs) = decoded_behind n bs
-decoded_behind zero (b ∷ bs) = (if is_utf8 (front_bytes b bs) then chars (front_bytes b bs) else not_utf8 ∷ []) ++ decoded_behind (if is_utf8 (front_bytes b bs) then continuation_len b else 0) bs
+decoded_behind zero (b ∷ bs) = (if is_character b bs then chars (b ∷ more_bytes b bs) else not_utf8 ∷ []) ++ decoded_behind (if is_character b bs then length (more_bytes b bs) else 0) bs
 
 unfoldable pub decoded : List ℕ → List ℕ
 decoded bytes = decoded_behind 0 bytes

@@ -3,6 +3,7 @@ use Rattle.std.specs.Prelude.{ℕ, ◌+◌, ◌^◌, Bool, true, false, not, ◌
 use Rattle.std.specs.List.{list_all, list_any}
 use Rattle.pyn_base.specs.declared.construct.Construct.{Construct}
 use Rattle.pyn_base.specs.declared.construct.Construct.TheVariants as fault
+use Rattle.py_language.specs.declared.token.Token.{Token}
 use Rattle.py_language.specs.TokensCharacters.{is_letter, is_digit, is_word, is_blank, is_quote, begins, not_utf8, decoded}
 use Rattle.py_language.specs.TokensNames.{is_string_prefix}
 use Rattle.py_language.specs.TokensNumbers.{is_nil, integer_value}
@@ -42,13 +43,17 @@ first_refused (c ∷ cs) = or_else (refused c) (first_refused cs)
 abbrev pub declares : List ℕ → Bool
 declares piece = is_comment piece && not (is_nil (declared_encoding piece))
 
+abbrev pub is_no_token : List Token → Bool
+is_no_token [] = true
+is_no_token (x ∷ xs) = false
+
+-- neither a token nor a declaration
+abbrev pub is_silent : List ℕ → Bool
+is_silent piece = is_no_token (token_of piece) && not (declares piece)
+
 -- a comment declares an encoding on the first two lines, before any token, where no comment before it does
 abbrev pub may_declare : List (List ℕ) → Bool
-may_declare before = nat_le (line_after before) 2 && list_all (λ piece. no_token (token_of piece) && not (declares piece)) before
-  where
-    no_token : {X : Type 0} → List X → Bool
-    no_token [] = true
-    no_token (x ∷ xs) = false
+may_declare before = nat_le (line_after before) 2 && list_all is_silent before
 
 -- `encoding`: a comment that declares one that is not accepted
 unfoldable pub comment_fault : Bool → List (List ℕ) → List ℕ → Option Construct

@@ -1,6 +1,6 @@
 -- What the pieces before a place make: its line, the brackets that are open, and the logical lines (Language Reference 2.1).
 -- The pieces before a place are listed with the nearest first.
-use Rattle.std.specs.Prelude.{ℕ, ◌+◌, Bool, false, if◌then◌else◌, ◌==◌, List, [], ◌∷◌, ◌++◌, length, drop, Option, Some, None, Result, Ok, Err, count_by, option_to_list, pos}
+use Rattle.std.specs.Prelude.{ℕ, ◌+◌, Bool, false, if◌then◌else◌, ◌==◌, List, [], ◌∷◌, ◌++◌, length, drop, Option, Some, None, Result, Ok, Err, option_to_list, pos}
 use Rattle.pyn_base.specs.declared.construct.Construct.{Construct}
 use Rattle.py_language.specs.declared.token.Token.{Token}
 use Rattle.py_language.specs.declared.token.Token.TheVariants as t
@@ -37,10 +37,15 @@ token_of (c ∷ cs) = token_by c cs
 
 -- ---- lines and brackets
 
+-- how many line ends a text has
+abbrev pub line_feeds : List ℕ → ℕ
+line_feeds [] = 0
+line_feeds (c ∷ cs) = (if c == 10 then 1 else 0) + line_feeds cs
+
 -- the line on which the next piece begins
 unfoldable pub line_after : List (List ℕ) → ℕ
 line_after [] = 1
-line_after (piece ∷ before) = line_after before + count_by (λ c. c == 10) piece
+line_after (piece ∷ before) = line_after before + line_feeds piece
 
 -- the brackets that are open, the innermost first: the line of each and its character
 abbrev pub Brackets : Type 0

@@ -1,5 +1,5 @@
 -- Names and keywords (Language Reference 2.3). Names are ASCII here.
-use Rattle.std.specs.Prelude.{ℕ, Bool, false, ◌&&◌, if◌then◌else◌, List, [], ◌∷◌, Option, Some, None, bytes_eq, codes}
+use Rattle.std.specs.Prelude.{ℕ, Bool, false, ◌&&◌, if◌then◌else◌, List, [], ◌∷◌, ◌++◌, Option, Some, None, bytes_eq, codes}
 use Rattle.std.specs.List.{list_all, list_any}
 use Rattle.std.specs.Str.{str_to_ascii_lowercase}
 use Rattle.py_language.specs.declared.token.Token.{Token}
@@ -16,17 +16,32 @@ is_name (c ∷ cs) = is_letter c && list_all is_word cs
 -- what stands beside the first text of a list that is the same
 abbrev pub listed : {X : Type 0} → List (List ℕ × X) → List ℕ → Option X
 listed [] text = None
-listed (row ∷ rows) text = if bytes_eq row.0 text then Some row.1 else listed rows text
+listed (row ∷ rows) text = if bytes_eq text row.0 then Some row.1 else listed rows text
 
-unfoldable pub keywords : List (List ℕ × Keyword)
-keywords =
-    (codes "False", k.FalseLit) ∷ (codes "None", k.NoneLit) ∷ (codes "True", k.TrueLit) ∷ (codes "and", k.And) ∷ (codes "as", k.As) ∷ (codes "assert", k.Assert)
-    ∷ (codes "async", k.Async) ∷ (codes "await", k.Await) ∷ (codes "break", k.Break) ∷ (codes "class", k.Class) ∷ (codes "continue", k.Continue)
-    ∷ (codes "def", k.Def) ∷ (codes "del", k.Del) ∷ (codes "elif", k.Elif) ∷ (codes "else", k.Else) ∷ (codes "except", k.Except)
-    ∷ (codes "finally", k.Finally) ∷ (codes "for", k.For) ∷ (codes "from", k.From) ∷ (codes "global", k.Global) ∷ (codes "if", k.If)
-    ∷ (codes "import", k.Import) ∷ (codes "in", k.In) ∷ (codes "is", k.Is) ∷ (codes "lambda", k.Lambda) ∷ (codes "nonlocal", k.Nonlocal)
-    ∷ (codes "not", k.Not) ∷ (codes "or", k.Or) ∷ (codes "pass", k.Pass) ∷ (codes "raise", k.Raise) ∷ (codes "return", k.Return)
-    ∷ (codes "try", k.Try) ∷ (codes "while", k.While) ∷ (codes "with", k.With) ∷ (codes "yield", k.Yield) ∷ []
+unfoldable pub keywords_of_2 : List (List ℕ × Keyword)
+keywords_of_2 = (codes "as", k.As) ∷ (codes "if", k.If) ∷ (codes "in", k.In) ∷ (codes "is", k.Is) ∷ (codes "or", k.Or) ∷ []
+
+unfoldable pub keywords_of_3 : List (List ℕ × Keyword)
+keywords_of_3 = (codes "and", k.And) ∷ (codes "def", k.Def) ∷ (codes "del", k.Del) ∷ (codes "for", k.For) ∷ (codes "not", k.Not) ∷ (codes "try", k.Try) ∷ []
+
+unfoldable pub keywords_of_4 : List (List ℕ × Keyword)
+keywords_of_4 = (codes "None", k.NoneLit) ∷ (codes "True", k.TrueLit) ∷ (codes "elif", k.Elif) ∷ (codes "else", k.Else) ∷ (codes "from", k.From) ∷ (codes "pass", k.Pass) ∷ (codes "with", k.With) ∷ []
+
+unfoldable pub keywords_of_5 : List (List ℕ × Keyword)
+keywords_of_5 = (codes "False", k.FalseLit) ∷ (codes "async", k.Async) ∷ (codes "await", k.Await) ∷ (codes "break", k.Break) ∷ (codes "class", k.Class) ∷ (codes "raise", k.Raise) ∷ (codes "while", k.While) ∷ (codes "yield", k.Yield) ∷ []
+
+unfoldable pub keywords_of_6 : List (List ℕ × Keyword)
+keywords_of_6 = (codes "assert", k.Assert) ∷ (codes "except", k.Except) ∷ (codes "global", k.Global) ∷ (codes "import", k.Import) ∷ (codes "lambda", k.Lambda) ∷ (codes "return", k.Return) ∷ []
+
+unfoldable pub keywords_of_7 : List (List ℕ × Keyword)
+keywords_of_7 = (codes "finally", k.Finally) ∷ []
+
+unfoldable pub keywords_of_8 : List (List ℕ × Keyword)
+keywords_of_8 = (codes "continue", k.Continue) ∷ (codes "nonlocal", k.Nonlocal) ∷ []
+
+-- the 35 keywords, by their length
+abbrev pub keywords : List (List ℕ × Keyword)
+keywords = keywords_of_2 ++ (keywords_of_3 ++ (keywords_of_4 ++ (keywords_of_5 ++ (keywords_of_6 ++ (keywords_of_7 ++ keywords_of_8)))))
 
 abbrev pub keyword_or_name : List ℕ → Option Keyword → Token
 keyword_or_name text None = t.Name text

@@ -3,9 +3,9 @@ use Rattle.std.specs.Prelude.{ℕ, ◌+◌, ◌*◌, Bool, true, false, not, ◌
 use Rattle.std.specs.Char.{digit_value}
 use Rattle.py_language.specs.TokensCharacters.{is_digit, begins}
 
--- a digit of a base, up to 16: letters of either case stand for 10 and more
-abbrev pub is_digit_in : ℕ → ℕ → Bool
-is_digit_in base c = nat_lt (digit_value c) base
+-- a digit of a value below n: letters of either case stand for 10 and more
+abbrev pub is_digit_below : ℕ → ℕ → Bool
+is_digit_below n c = nat_lt (digit_value c) n
 
 -- digits of a class; a single `_` may stand before each
 abbrev pub are_digits : (ℕ → Bool) → List ℕ → Bool
@@ -26,27 +26,27 @@ is_nil (c ∷ cs) = false
 -- behind `0`: a letter that says the base, and digits of that base
 abbrev pub is_based : List ℕ → Bool
 is_based [] = false
-is_based (c ∷ cs) = not (is_nil cs) && are_digits (is_digit_in (base_of c)) cs
+is_based (c ∷ cs) = not (is_nil cs) && are_digits (is_digit_below (base_of c)) cs
 
 -- `0` repeated, a decimal number that does not begin with `0`, or a number in base 16, 8 or 2
 abbrev pub is_integer : List ℕ → Bool
 is_integer [] = false
-is_integer (c ∷ cs) = is_digit c && (if c == 48 then are_digits (λ d. d == 48) cs || is_based cs else are_digits is_digit cs)
+is_integer (c ∷ cs) = is_digit c && (if c == 48 then are_digits (is_digit_below 1) cs || is_based cs else are_digits (is_digit_below 10) cs)
 
 -- the number that digits go on to make of n; `_` is no digit
 abbrev pub number_from : ℕ → ℕ → List ℕ → ℕ
 number_from base n [] = n
 number_from base n (c ∷ cs) = number_from base (if c == 95 then n else n * base + digit_value c) cs
 
-abbrev pub base_in : List ℕ → ℕ
-base_in [] = 0
-base_in (c ∷ cs) = base_of c
-
 abbrev pub behind_first : List ℕ → List ℕ
 behind_first [] = []
 behind_first (c ∷ cs) = cs
 
--- the value of an integer's text
+abbrev pub base_in : List ℕ → ℕ
+base_in [] = 0
+base_in (c ∷ cs) = base_of c
+
+-- the value of an integer's text: behind `0` a letter may say the base
 abbrev pub integer_value : List ℕ → ℕ
 integer_value [] = 0
-integer_value (c ∷ cs) = if c == 48 && is_based cs then number_from (base_in cs) 0 (behind_first cs) else number_from 10 0 (c ∷ cs)
+integer_value (c ∷ cs) = if c == 48 && nat_lt 0 (base_in cs) then number_from (base_in cs) 0 (behind_first cs) else number_from 10 0 (c ∷ cs)

@@ -1,10 +1,12 @@
 -- Strings and their escapes (Language Reference 2.4.1).
-use Rattle.std.specs.Prelude.{ℕ, zero, suc, ◌+◌, ◌-◌, Bool, true, false, not, ◌&&◌, ◌||◌, if◌then◌else◌, ◌==◌, nat_eq, nat_lt, nat_le, List, [], ◌∷◌, ◌++◌, length, take, drop, Option, Some, None, Result, Ok, Err}
-use Rattle.std.specs.List.{list_all, starts_with}
+use Rattle.std.specs.Prelude.{ℕ, zero, suc, ◌+◌, ◌-◌, ◌*◌, Bool, true, false, not, ◌&&◌, ◌||◌, if◌then◌else◌, ◌==◌, nat_eq, List, [], ◌∷◌, ◌++◌, length, take, drop, Option, Some, None, Result, Ok, Err}
+use Rattle.std.specs.List.{starts_with}
+use Rattle.std.specs.Char.{digit_value}
+use Rattle.std.specs.Str.{all_scalars}
 use Rattle.pyn_base.specs.declared.construct.Construct.{Construct}
 use Rattle.pyn_base.specs.declared.construct.Construct.TheVariants as fault
-use Rattle.py_language.specs.TokensCharacters.{not_utf8, decoded}
-use Rattle.py_language.specs.TokensNumbers.{is_digit_in, number_from}
+use Rattle.py_language.specs.TokensCharacters.{begins, not_utf8, decoded}
+use Rattle.py_language.specs.TokensNumbers.{is_digit_below}
 
 -- ---- where a string ends
 
@@ -46,18 +48,19 @@ string_len q cs = plus (quotes_len q cs) (closing q (is_tripled q cs) false (dro
 abbrev pub refused : ℕ → Option Construct
 refused c = if c == not_utf8 then Some fault.Encoding else (if c == 13 || c == 12 then Some fault.Character else None)
 
--- n hexadecimal digits, and their value
-abbrev pub hex_value : ℕ → List ℕ → Option ℕ
-hex_value n cs = if length (take n cs) == n && list_all (is_digit_in 16) (take n cs) then Some (number_from 16 0 (take n cs)) else None
+-- what n hexadecimal digits make of those before, which made v
+abbrev pub hex_value : ℕ → ℕ → List ℕ → Option ℕ
+hex_value zero v cs = Some v
+hex_value (suc n) v [] = None
+hex_value (suc n) v (c ∷ cs) = if is_digit_below 16 c then hex_value n (v * 16 + digit_value c) cs else None
 
--- the code of a character, and not a surrogate
-abbrev pub unless_surrogate : Option ℕ → Option ℕ
-unless_surrogate None = None
-unless_surrogate (Some c) = if nat_lt c 0xD800 || nat_le 0xE000 c then Some c else None
+-- an escape of n hexadecimal digits: the character with that code, if there is one
+abbrev pub hex_escape_by : ℕ → Option ℕ → Option (List ℕ × ℕ)
+hex_escape_by n None = None
+hex_escape_by n (Some c) = if all_scalars (c ∷ []) then Some (c ∷ [], suc n) else None
 
-abbrev pub coded : ℕ → Option ℕ → Option (List ℕ × ℕ)
-coded n None = None
-coded n (Some c) = Some (c ∷ [], n)
+abbrev pub hex_escape : ℕ → List ℕ → Option (List ℕ × ℕ)
+hex_escape n cs = hex_escape_by n (hex_value n 0 cs)
 
 -- what stands behind a backslash: the characters that the escape is, and how many it takes
 abbrev pub escape_by : ℕ → List ℕ → Option (List ℕ × ℕ)
@@ -67,21 +70,21 @@ escape_by c cs =
     else (if c == 116 then Some (9 ∷ [], 1)
     else (if c == 114 then Some (13 ∷ [], 1)
     else (if c == 10 then Some ([], 1)
-    else (if c == 120 then coded 3 (hex_value 2 cs)
-    else (if c == 117 then coded 5 (unless_surrogate (hex_value 4 cs))
+    else (if c == 120 then hex_escape 2 cs
+    else (if c == 117 then hex_escape 4 cs
     else None))))))
 
 abbrev pub escape_of : List ℕ → Option (List ℕ × ℕ)
 escape_of [] = None
 escape_of (c ∷ cs) = escape_by c cs
 
+abbrev pub escape_len : Option (List ℕ × ℕ) → ℕ
+escape_len None = 0
+escape_len (Some escape) = escape.1
+
 -- how many of the characters behind one are read with it
 abbrev pub taken : ℕ → List ℕ → ℕ
 taken c cs = if c == 92 then escape_len (escape_of cs) else 0
-  where
-    escape_len : Option (List ℕ × ℕ) → ℕ
-    escape_len None = 0
-    escape_len (Some escape) = escape.1
 
 -- the characters of a string, or its first fault with the number of line ends before it
 abbrev pub Content : Type 0
@@ -105,7 +108,7 @@ plain c None rest = behind (c ∷ []) rest
 
 -- the line ends that one character and those read with it hold
 abbrev pub line_feeds_in : ℕ → List ℕ → ℕ
-line_feeds_in c cs = if c == 10 || (c == 92 && starts_with nat_eq cs (10 ∷ [])) then 1 else 0
+line_feeds_in c cs = if c == 10 || (c == 92 && begins (λ d. d == 10) cs) then 1 else 0
 
 -- what the characters between the quotes stand for; the first n of them belong to the escape before
 abbrev pub content_behind : ℕ → List ℕ → Content

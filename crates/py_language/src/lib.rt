@@ -13,6 +13,7 @@ mod first_form_examples;
 mod shape;
 mod token;
 mod token_examples;
+mod token_laws;
 mod tree_examples;
 
 pub use first::First;
@@ -20,6 +21,7 @@ pub use first_form_examples::{examples_of_first_form, laws_of_first_form};
 pub use shape::{Atom, Bracket, Shape, Symbol};
 pub use token::{Keyword, Logical, Mark, Token, Tokens};
 pub use token_examples::worked_tokens;
+pub use token_laws::laws_of_tokens;
 pub use tree_examples::{
     depths_by_example, groups_by_example, numbers_by_example, operators_by_example,
     refusals_by_example,

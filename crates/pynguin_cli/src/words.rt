@@ -3,9 +3,10 @@ ghost use Rattle.std.specs.Prelude.{◌≡◌, ◌<◌, IfSome, IsTrue, bytes_eq
 ghost use Rattle.std.specs.List.{list_all};
 ghost use Rattle.py_language.specs.TokensCharacters.{is_letter, is_word};
 ghost use Rattle.py_language.specs.TokensNames.{is_name};
-ghost use Rattle.pynguin_cli.specs.Words.{job_at, job_of, has_form, last_part, is_keyword, is_module_name, module_name_of, word};
+ghost use Rattle.pynguin_cli.specs.Words.{job_at, job_of, has_form, last_part, is_module_name, module_name_of, word};
 
-use pyn_base::{Bytes, Memory, Name, Text};
+use py_lexer::keyword_of;
+use pyn_base::{Memory, Name, Text};
 use std::alloc::Global;
 
 /// What the words ask for.
@@ -83,20 +84,6 @@ fn is_name(name: &[char]) -> bool
     are_words(rest)
 }
 
-// Whether this is a keyword of Python 3.10.
-fn is_keyword(name: &str) -> bool
-    ensures { result ≡ is_keyword name.now }
-{
-    KEYWORDS.contains(&name)
-}
-
-const KEYWORDS: [&str; 35] = [
-    "False", "None", "True", "and", "as", "assert", "async", "await", "break", "class", "continue",
-    "def", "del", "elif", "else", "except", "finally", "for", "from", "global", "if", "import",
-    "in", "is", "lambda", "nonlocal", "not", "or", "pass", "raise", "return", "try", "while",
-    "with", "yield",
-];
-
 // The name of these letters.
 fn name_of(alloc: Global, letters: &[char]) -> Result<Name, Memory>
     ensures { IfOk result (λ name. name ≡ letters.now) }
@@ -113,7 +100,7 @@ fn may_name_module(name: &Name) -> bool
     requires { IsTrue (is_name name.now) }
     ensures { result ≡ is_module_name name.now }
 {
-    if is_keyword(name.as_str()) {
+    if keyword_of(name.as_str().as_bytes()).is_some() {
         return false;
     }
     !name.is("pytest")

@@ -1,0 +1,213 @@
+// What is read so far, and how a piece joins it.
+ghost use Rattle.std.specs.Prelude.{◌≡◌, ◌<◌, ◌≤◌, ◌+◌, ◌^◌, [], ◌∷◌, ◌++◌, true, Some, None, IfOk};
+ghost use Rattle.py_lexer.specs.Steps as steps;
+ghost use Rattle.py_lexer.specs.Found.{lines_in};
+
+use crate::brackets::Brackets;
+use crate::piece::Piece;
+use py_language::{Logical, Mark, Token, Tokens};
+use pyn_base::{Construct, Memory};
+use sqlite_items::Items;
+use std::alloc::Global;
+
+#[derive(Debug, Drop)]
+pub struct Reader {
+    /// The logical lines that have ended.
+    pub lines: Items<Logical>,
+    /// The one that has begun.
+    pub begun: Option<Logical>,
+    pub brackets: Brackets,
+    pub line: u64,
+    /// The blanks right before.
+    pub column: u32,
+    /// No token and no encoding declaration came before.
+    pub undeclared: bool,
+}
+
+#[derive(Debug, Drop)]
+pub enum Step {
+    On(Reader),
+    End(Tokens),
+}
+
+fn stopped(reader: Reader, lines: u64, construct: Construct) -> Step
+    requires { reader.line + lines < 2 ^ 63 }
+    ensures { result ≡ steps.stopped reader lines construct }
+{
+    Step::End(Tokens {
+        lines: reader.lines,
+        fault: Some((reader.line + lines, construct)),
+    })
+}
+
+fn joined(
+    alloc: Global,
+    begun: Option<Logical>,
+    line: u64,
+    column: u32,
+    token: Token,
+) -> Result<Logical, Memory>
+    ensures { IfOk result (λ l. Some l ≡ steps.joined begun line column token) }
+{
+    let mut logical = match begun {
+        Some(logical) => logical,
+        None => Logical {
+            line,
+            column,
+            tokens: Items::new(alloc),
+        },
+    };
+    logical.tokens.push(token)?;
+    Ok(logical)
+}
+
+#[tactic(auto, unfolding(crate::specs::Steps::with_token))]
+fn with_token(alloc: Global, reader: Reader, token: Token, lines: u64) -> Result<Reader, Memory>
+    requires { reader.line + lines < 2 ^ 63 }
+    ensures { IfOk result (λ r. r ≡ steps.with_token reader token lines) }
+{
+    let Reader {
+        lines: ended,
+        begun,
+        brackets,
+        line,
+        column,
+        undeclared: _,
+    } = reader;
+    Ok(Reader {
+        lines: ended,
+        begun: Some(joined(alloc, begun, line, column, token)?),
+        brackets,
+        line: line + lines,
+        column: 0,
+        undeclared: false,
+    })
+}
+
+fn opening(alloc: Global, mut reader: Reader, mark: Mark, bracket: u8) -> Result<Step, Memory>
+    requires { reader.line < 2 ^ 63 }
+    ensures { IfOk result (λ s. s ≡ steps.opening reader mark bracket) }
+{
+    if reader.brackets.len() >= 50 {
+        return Ok(stopped(reader, 0, Construct::Nesting));
+    }
+    let line = reader.line;
+    reader.brackets.push(line, bracket)?;
+    Ok(Step::On(with_token(alloc, reader, Token::Mark(mark), 0)?))
+}
+
+fn closes(bracket: u8, opener: u8) -> bool
+    ensures { result ≡ steps.closes bracket opener }
+{
+    (opener == b'(' && bracket == b')')
+        || ((opener == b'[' && bracket == b']') || (opener == b'{' && bracket == b'}'))
+}
+
+fn closing(alloc: Global, mut reader: Reader, mark: Mark, bracket: u8) -> Result<Step, Memory>
+    requires { reader.line < 2 ^ 63 }
+    ensures { IfOk result (λ s. s ≡ steps.closing reader mark bracket reader.brackets) }
+{
+    match reader.brackets.pop() {
+        Some((_, open)) if closes(bracket, open) => Ok(Step::On(with_token(
+            alloc,
+            reader,
+            Token::Mark(mark),
+            0,
+        )?)),
+        _ => Ok(stopped(reader, 0, Construct::Bracket)),
+    }
+}
+
+fn blanks(mut reader: Reader, len: u32, is_faulty: bool) -> Step
+    requires { reader.line < 2 ^ 63 }
+    ensures { result ≡ steps.blanks reader len is_faulty }
+{
+    if is_faulty && reader.begun.is_none() {
+        return stopped(reader, 0, Construct::Tab);
+    }
+    reader.column = len;
+    Step::On(reader)
+}
+
+fn comment(
+    mut reader: Reader,
+    declares: bool,
+    is_accepted: bool,
+    refused: Option<Construct>,
+) -> Step
+    requires { reader.line < 2 ^ 63 }
+    ensures { result ≡ steps.comment reader declares is_accepted refused }
+{
+    if reader.line <= 2 && reader.undeclared && declares && !is_accepted {
+        return stopped(reader, 0, Construct::Encoding);
+    }
+    if let Some(construct) = refused {
+        return stopped(reader, 0, construct);
+    }
+    reader.column = 0;
+    reader.undeclared = !declares && reader.undeclared;
+    Step::On(reader)
+}
+
+fn with_line(mut lines: Items<Logical>, begun: Option<Logical>) -> Result<Items<Logical>, Memory>
+    ensures { IfOk result (λ l. l ≡ steps.with_line lines begun) }
+{
+    if let Some(logical) = begun {
+        lines.push(logical)?;
+    }
+    Ok(lines)
+}
+
+pub fn line_end(reader: Reader) -> Result<Reader, Memory>
+    requires { reader.line < 2 ^ 63 }
+    ensures { IfOk result (λ r. r ≡ steps.line_end reader reader.brackets) }
+{
+    let Reader {
+        lines,
+        begun,
+        brackets,
+        line,
+        column: _,
+        undeclared,
+    } = reader;
+    if brackets.len() > 0 {
+        return Ok(Reader {
+            lines,
+            begun,
+            brackets,
+            line: line + 1,
+            column: 0,
+            undeclared,
+        });
+    }
+    Ok(Reader {
+        lines: with_line(lines, begun)?,
+        begun: None,
+        brackets,
+        line: line + 1,
+        column: 0,
+        undeclared,
+    })
+}
+
+/// Joins a piece to what is read.
+#[tactic(auto, unfolding(crate::specs::Steps::step))]
+pub fn take_in(alloc: Global, reader: Reader, piece: Piece) -> Result<Step, Memory>
+    requires { reader.line + lines_in piece < 2 ^ 62 }
+    ensures { IfOk result (λ s. s ≡ steps.step reader piece) }
+{
+    match piece {
+        Piece::Blanks(len, is_faulty) => Ok(blanks(reader, len, is_faulty)),
+        Piece::Comment(declares, is_accepted, refused) => Ok(comment(
+            reader,
+            declares,
+            is_accepted,
+            refused,
+        )),
+        Piece::LineEnd => Ok(Step::On(line_end(reader)?)),
+        Piece::Word(token, lines) => Ok(Step::On(with_token(alloc, reader, token, lines)?)),
+        Piece::Opening(mark, bracket) => opening(alloc, reader, mark, bracket),
+        Piece::Closing(mark, bracket) => closing(alloc, reader, mark, bracket),
+        Piece::Fault(lines, construct) => Ok(stopped(reader, lines, construct)),
+    }
+}

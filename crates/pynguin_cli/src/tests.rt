@@ -4,14 +4,7 @@ use pyn_base::{Break, Bytes, CallKind, Desk, MemoryDesk};
 use std::alloc::Global;
 use std::test::Fail;
 
-const WORDS: [&str; 6] = [
-    "--module",
-    "one.py",
-    "--suite",
-    "test_one.py",
-    "--report",
-    "report.txt",
-];
+const WORDS: &str = "--module one.py --suite test_one.py --report report.txt";
 
 const ONE: &str = "def f():\n    return 1\n";
 
@@ -21,9 +14,9 @@ const ONE_SUITE: &str =
 const ONE_REPORT: &str =
     "pynguin report 1\nmodule one\nsteps 20000\nmutants 0\ntest 0 passes\ngoal 0 entry 1 covered 0\ngoal 1 line 2 covered 0\ngoals 2 of 2\nkills 0 of 0\nminimal yes\n";
 
-fn words(alloc: Global, all: &[&str]) -> Result<Vec<Text>, Fail> {
+fn words(alloc: Global, line: &str) -> Result<Vec<Text>, Fail> {
     let mut words = Vec::new(alloc);
-    for word in all {
+    for word in line.split(' ') {
         words.push(Text::from_str(alloc, word)?)?;
     }
     Ok(words)
@@ -62,7 +55,7 @@ fn modules_get_their_suite_and_report(rt: HostRuntime) -> Result<(), Fail> {
     ];
     for (text, suite, report) in rows {
         let mut desk = desk(alloc, text, Vec::new(alloc))?;
-        let words = words(alloc, &WORDS)?;
+        let words = words(alloc, WORDS)?;
         assert_eq!(rt; pynguin(alloc, words.as_slice(), &mut desk), Status::Done);
         assert!(rt; is_file(&desk, "test_one.py", suite));
         assert!(rt; is_file(&desk, "report.txt", report));
@@ -77,67 +70,20 @@ fn modules_get_their_suite_and_report(rt: HostRuntime) -> Result<(), Fail> {
 fn words_and_modules_are_refused(rt: HostRuntime) -> Result<(), Fail> {
     let alloc = rt.alloc();
     let bad_words = [
-        [
-            "--suite",
-            "test_one.py",
-            "--module",
-            "one.py",
-            "--report",
-            "report.txt",
-        ],
-        [
-            "--module",
-            "one.py",
-            "--suite",
-            "one.py",
-            "--report",
-            "report.txt",
-        ],
-        ["--module", "one.py", "--suite", "s.py", "--report", "s.py"],
-        [
-            "--module",
-            "class.py",
-            "--suite",
-            "s.py",
-            "--report",
-            "report.txt",
-        ],
-        [
-            "--module",
-            "pytest.py",
-            "--suite",
-            "s.py",
-            "--report",
-            "report.txt",
-        ],
-        [
-            "--module",
-            "one.txt",
-            "--suite",
-            "s.py",
-            "--report",
-            "report.txt",
-        ],
-        [
-            "--module",
-            "1.py",
-            "--suite",
-            "s.py",
-            "--report",
-            "report.txt",
-        ],
-        [
-            "--module",
-            "a/.py",
-            "--suite",
-            "s.py",
-            "--report",
-            "report.txt",
-        ],
+        "",
+        "--module one.py",
+        "--suite test_one.py --module one.py --report report.txt",
+        "--module one.py --suite one.py --report report.txt",
+        "--module one.py --suite s.py --report s.py",
+        "--module class.py --suite s.py --report report.txt",
+        "--module pytest.py --suite s.py --report report.txt",
+        "--module one.txt --suite s.py --report report.txt",
+        "--module 1.py --suite s.py --report report.txt",
+        "--module a/.py --suite s.py --report report.txt",
     ];
     for row in bad_words {
         let mut desk = desk(alloc, ONE, Vec::new(alloc))?;
-        let words = words(alloc, &row)?;
+        let words = words(alloc, row)?;
         assert_eq!(rt;
             pynguin(alloc, words.as_slice(), &mut desk),
             Status::BadWords
@@ -154,7 +100,7 @@ fn words_and_modules_are_refused(rt: HostRuntime) -> Result<(), Fail> {
     ];
     for text in bad_modules {
         let mut desk = desk(alloc, text, Vec::new(alloc))?;
-        let words = words(alloc, &WORDS)?;
+        let words = words(alloc, WORDS)?;
         assert_eq!(rt;
             pynguin(alloc, words.as_slice(), &mut desk),
             Status::Refused
@@ -174,7 +120,7 @@ fn each_call_fails_in_turn(rt: HostRuntime) -> Result<(), Fail> {
             let mut failing = Vec::new(alloc);
             failing.push((number, how))?;
             let mut desk = desk(alloc, ONE, failing)?;
-            let words = words(alloc, &WORDS)?;
+            let words = words(alloc, WORDS)?;
             assert_eq!(rt; pynguin(alloc, words.as_slice(), &mut desk), Status::Fault);
             assert_eq!(rt; desk.faults(), 1);
             let calls = desk.calls();
@@ -196,7 +142,7 @@ fn each_call_fails_in_turn(rt: HostRuntime) -> Result<(), Fail> {
 fn a_missing_module_is_a_fault(rt: HostRuntime) -> Result<(), Fail> {
     let alloc = rt.alloc();
     let mut desk = MemoryDesk::new(alloc, Vec::new(alloc), Vec::new(alloc))?;
-    let words = words(alloc, &WORDS)?;
+    let words = words(alloc, WORDS)?;
     assert_eq!(rt; pynguin(alloc, words.as_slice(), &mut desk), Status::Fault);
     assert_eq!(rt; desk.faults(), 1);
     assert!(rt; desk.file("test_one.py").is_none());
@@ -216,7 +162,7 @@ fn a_module_past_its_limit_is_refused(rt: HostRuntime) -> Result<(), Fail> {
         }
         text.push('\n')?;
         let mut desk = desk(alloc, text.as_str(), Vec::new(alloc))?;
-        let words = words(alloc, &WORDS)?;
+        let words = words(alloc, WORDS)?;
         assert_eq!(rt;
             pynguin(alloc, words.as_slice(), &mut desk),
             Status::Refused

@@ -1,0 +1,289 @@
+// The symbols of a list of tokens, made from the last one on.
+ghost use Rattle.std.specs.Prelude.{◌≡◌, ◌++◌, ◌∷◌, [], IfOk, OnOk, MatchOption, ◌&&◌};
+ghost use Rattle.py_language.specs.TreesSymbols.{keyword_symbol, mark_symbol, symbol, symbols, join, named, attribute, is_super};
+ghost use Rattle.py_language.specs.declared.token.Token.TheVariants as token;
+ghost use Rattle.py_language.specs.declared.shape.Atom.TheVariants as atom;
+ghost use Rattle.py_language.specs.declared.shape.Symbol.TheVariants as symbol;
+ghost use Rattle.py_expr.specs.Stacks.{Undots, Pushed, SuperOf, begins_called};
+
+use crate::stack::Stack;
+use py_language::{Atom, Bracket, Keyword, Mark, Symbol, Token};
+use py_syntax::{BinOp, CmpOp, Sign};
+use pyn_base::{Memory, Name, Text};
+use sqlite_items::Items;
+use std::alloc::{AllocError, Global};
+
+/// What a keyword that stands alone is.
+fn keyword(keyword: Keyword) -> Symbol
+    ensures { result ≡ keyword_symbol keyword }
+{
+    match keyword {
+        Keyword::FalseLit => Symbol::Atom(Atom::BoolLit(false)),
+        Keyword::NoneLit => Symbol::Atom(Atom::NoneLit),
+        Keyword::TrueLit => Symbol::Atom(Atom::BoolLit(true)),
+        Keyword::And => Symbol::And,
+        Keyword::Else => Symbol::Else,
+        Keyword::If => Symbol::If,
+        Keyword::In => Symbol::Compare(CmpOp::Contained),
+        Keyword::Is => Symbol::Compare(CmpOp::Same),
+        Keyword::Not => Symbol::Not,
+        Keyword::Or => Symbol::Or,
+        Keyword::As
+        | Keyword::Assert
+        | Keyword::Async
+        | Keyword::Await
+        | Keyword::Break
+        | Keyword::Class
+        | Keyword::Continue
+        | Keyword::Def
+        | Keyword::Del
+        | Keyword::Elif
+        | Keyword::Except
+        | Keyword::Finally
+        | Keyword::For
+        | Keyword::From
+        | Keyword::Global
+        | Keyword::Import
+        | Keyword::Lambda
+        | Keyword::Nonlocal
+        | Keyword::Pass
+        | Keyword::Raise
+        | Keyword::Return
+        | Keyword::Try
+        | Keyword::While
+        | Keyword::With
+        | Keyword::Yield => Symbol::Other,
+    }
+}
+
+/// What a mark that stands alone is.
+fn mark(mark: Mark) -> Symbol
+    ensures { result ≡ mark_symbol mark }
+{
+    match mark {
+        Mark::Plus => Symbol::Sign(Sign::Plus),
+        Mark::Minus => Symbol::Sign(Sign::Minus),
+        Mark::Star => Symbol::Factor(BinOp::Mul),
+        Mark::DoubleSlash => Symbol::Factor(BinOp::FloorDiv),
+        Mark::Percent => Symbol::Factor(BinOp::Mod),
+        Mark::Less => Symbol::Compare(CmpOp::Lt),
+        Mark::Greater => Symbol::Compare(CmpOp::Gt),
+        Mark::LessEqual => Symbol::Compare(CmpOp::Le),
+        Mark::GreaterEqual => Symbol::Compare(CmpOp::Ge),
+        Mark::EqualEqual => Symbol::Compare(CmpOp::Eq),
+        Mark::NotEqual => Symbol::Compare(CmpOp::Ne),
+        Mark::LeftParen => Symbol::Open(Bracket::Round),
+        Mark::RightParen => Symbol::Close(Bracket::Round),
+        Mark::LeftBracket => Symbol::Open(Bracket::Square),
+        Mark::RightBracket => Symbol::Close(Bracket::Square),
+        Mark::LeftBrace => Symbol::Open(Bracket::Brace),
+        Mark::RightBrace => Symbol::Close(Bracket::Brace),
+        Mark::Comma => Symbol::Comma,
+        Mark::Colon => Symbol::Colon,
+        Mark::Equal => Symbol::Equal,
+        Mark::DoubleStar
+        | Mark::Slash
+        | Mark::At
+        | Mark::LeftShift
+        | Mark::RightShift
+        | Mark::Ampersand
+        | Mark::Pipe
+        | Mark::Caret
+        | Mark::Tilde
+        | Mark::Walrus
+        | Mark::Dot
+        | Mark::Semicolon
+        | Mark::Arrow
+        | Mark::Ellipsis
+        | Mark::PlusEqual
+        | Mark::MinusEqual
+        | Mark::StarEqual
+        | Mark::SlashEqual
+        | Mark::DoubleSlashEqual
+        | Mark::PercentEqual
+        | Mark::AtEqual
+        | Mark::AmpersandEqual
+        | Mark::PipeEqual
+        | Mark::CaretEqual
+        | Mark::RightShiftEqual
+        | Mark::LeftShiftEqual
+        | Mark::DoubleStarEqual => Symbol::Other,
+    }
+}
+
+fn push_not(stack: &mut Stack) -> Result<(), AllocError>
+    ensures { OnOk result (stack.new ≡ join symbol.Not stack.old) }
+{
+    if stack.begins_in() {
+        let _in = stack.pop();
+        return stack.push(Symbol::Compare(CmpOp::NotContained));
+    }
+    stack.push(Symbol::Not)
+}
+
+fn push_is(stack: &mut Stack) -> Result<(), AllocError>
+    ensures { OnOk result (stack.new ≡ join (symbol.Compare CmpOp.Same) stack.old) }
+{
+    if stack.begins_not() {
+        let _not = stack.pop();
+        return stack.push(Symbol::Compare(CmpOp::NotSame));
+    }
+    stack.push(Symbol::Compare(CmpOp::Same))
+}
+
+fn push_keyword(stack: &mut Stack, word: Keyword) -> Result<(), AllocError>
+    ensures { OnOk result (stack.new ≡ join (keyword_symbol word) stack.old) }
+{
+    match word {
+        Keyword::Not => push_not(stack),
+        Keyword::Is => push_is(stack),
+        _ => stack.push(keyword(word)),
+    }
+}
+
+fn push_attribute(alloc: Global, stack: &mut Stack, name: &Name) -> Result<(), Memory>
+    ensures { OnOk result (stack.new ≡ attribute name.now stack.old) }
+{
+    let name = name.to_owned(alloc)?;
+    if stack.begins_opened() {
+        return Ok(stack.push(Symbol::Method(name))?);
+    }
+    Ok(stack.push(Symbol::Attribute(name))?)
+}
+
+/// The last token, and what stands before it.
+fn last_of(tokens: &[Token]) -> Option<(&Token, &[Token])>
+    ensures { MatchOption result (tokens.now ≡ []) (λ r. tokens.now ≡ r.1.now ++ r.0.now ∷ []) }
+{
+    tokens.split_last()
+}
+
+/// What stands before a dot at the end.
+fn undotted(tokens: &[Token]) -> Option<&[Token]>
+    ensures { Undots tokens.now result }
+{
+    let (last, before) = last_of(tokens)?;
+    match last {
+        Token::Mark(Mark::Dot) => Some(before),
+        _ => None,
+    }
+}
+
+/// Two texts, one behind the other.
+fn joined(alloc: Global, first: &Text, second: &Text) -> Result<Text, Memory>
+    ensures { IfOk result (λ t. t ≡ first.now ++ second.now) }
+{
+    let mut text = String::from_str(alloc, first.as_str())?;
+    text.push_str(second.as_str())?;
+    Ok(Text::from_string(text))
+}
+
+fn push_string(alloc: Global, stack: &mut Stack, text: &Text) -> Result<(), Memory>
+    ensures { OnOk result (stack.new ≡ join (symbol.Atom (atom.StrLit text.now)) stack.old) }
+{
+    let text = match stack.take_string() {
+        Some(next) => joined(alloc, text, &next)?,
+        None => text.to_owned(alloc)?,
+    };
+    Ok(stack.push(Symbol::Atom(Atom::StrLit(text)))?)
+}
+
+fn is_super(name: &Name) -> bool
+    ensures { result ≡ is_super name.now }
+{
+    name.is("super")
+}
+
+/// Whether a name is `super`, and `().name(` stands behind it.
+fn is_super_call(name: &Name, stack: &Stack) -> bool
+    ensures { result ≡ (is_super name.now && begins_called stack.now) }
+{
+    if !is_super(name) {
+        return false;
+    }
+    stack.begins_called()
+}
+
+/// Takes `().name` from the front.
+fn push_super(stack: &mut Stack) -> Result<(), Memory>
+    ensures { OnOk result (SuperOf stack.old stack.new) }
+{
+    let Some(_opens) = stack.pop() else {
+        return Err(Memory);
+    };
+    let Some(_closes) = stack.pop() else {
+        return Err(Memory);
+    };
+    let Some(Symbol::Method(name)) = stack.pop() else {
+        return Err(Memory);
+    };
+    Ok(stack.push(Symbol::Super(name))?)
+}
+
+/// A name, which `().name(` behind it makes one with `super`.
+fn push_name(alloc: Global, stack: &mut Stack, name: &Name) -> Result<(), Memory>
+    ensures { OnOk result (stack.new ≡ named name.now stack.old) }
+{
+    if is_super_call(name, stack) {
+        return push_super(stack);
+    }
+    let name = name.to_owned(alloc)?;
+    Ok(stack.push(Symbol::Atom(Atom::Name(name)))?)
+}
+
+/// A token, with what stands before it: the tokens that are left.
+fn push_token<'a>(
+    alloc: Global,
+    stack: &mut Stack,
+    token: &Token,
+    before: &'a [Token],
+) -> Result<&'a [Token], Memory>
+    ensures { IfOk result (λ rest. Pushed before.now token.now stack.old stack.new rest.now) }
+{
+    match token {
+        Token::Name(name) => {
+            if let Some(outer) = undotted(before) {
+                push_attribute(alloc, stack, name)?;
+                return Ok(outer);
+            }
+            push_name(alloc, stack, name)?;
+        }
+        Token::Keyword(word) => push_keyword(stack, *word)?,
+        Token::Int(n) => stack.push(Symbol::Atom(Atom::IntLit(*n)))?,
+        Token::Str(text) => push_string(alloc, stack, text)?,
+        Token::Mark(found) => stack.push(mark(*found))?,
+    }
+    Ok(before)
+}
+
+/// The symbols of a list of tokens (Language Reference, chapters 2 and 6).
+pub fn symbols_of(alloc: Global, tokens: &[Token]) -> Result<Items<Symbol>, Memory>
+    ensures { IfOk result (λ all. all ≡ symbols tokens.now) }
+{
+    let mut stack = Stack::new(alloc);
+    let mut rest = tokens;
+    while let Some((token, before)) = last_of(rest) {
+        rest = push_token(alloc, &mut stack, token, before)?;
+    }
+    Ok(stack.into_items(alloc)?)
+}
+
+#[cfg(test)]
+mod tests {
+    use super::*;
+    use std::test::Fail;
+
+    #[test]
+    fn with_ample_memory(rt: HostRuntime) -> Result<(), Fail> {
+        // not in, a string
+        let tokens = [
+            Token::Keyword(Keyword::Not),
+            Token::Keyword(Keyword::In),
+            Token::Str(Text::from_str(rt.alloc(), "a")?),
+            Token::Str(Text::from_str(rt.alloc(), "b")?),
+        ];
+        let all = symbols_of(rt.alloc(), &tokens)?;
+        assert!(rt; all.len() == 2);
+        Ok(())
+    }
+}

@@ -1,7 +1,12 @@
 -- A count at its end.
-use Rattle.std.proofs.Common.{◌≡◌, ◌∙◌, sym, ap, ℕ, ◌+◌, ◌-◌, ◌^◌, ◌<◌, min, List, [], ◌∷◌, length, arith}
+use Rattle.std.proofs.Common.{◌≡◌, ◌∙◌, ap, refl, ℕ, ◌+◌, ◌^◌, ◌<◌, List, [], ◌∷◌, length, Option, Some, None, Result, Ok, Err, IfSome, OnOk, encode_utf8_all, arith}
 use Rattle.py_language.specs.declared.token.Logical.{Logical}
-use Rattle.pyn_bench.specs.Counts.{counted, tokens_in}
+use Rattle.py_language.specs.declared.token.Tokens.{Tokens}
+use Rattle.py_language.specs.Tokens.{tokens_of}
+use Rattle.pyn_base.specs.declared.desk.DeskFail.{DeskFail}
+use Rattle.pyn_base.specs.Desk.{append, failure_of}
+use Rattle.pyn_base.specs.Files.{Files, content}
+use Rattle.pyn_bench.specs.Counts.{counted, tokens_in, counts_text, said_of}
 
 counted_small : (n : ℕ) → n < 2 ^ 64 → n ≡ counted (n + 0)
 counted_small n lt = omega arith
@@ -9,3 +14,16 @@ counted_small n lt = omega arith
 pub all_counted : (rest : List Logical) (n x : ℕ) → length rest ≡ 0 → n < 2 ^ 64 → counted (n + tokens_in rest) ≡ x → n ≡ x
 all_counted [] n x e lt same = counted_small n lt ∙ same
 all_counted (l ∷ ls) n x e lt same = absurd (omega arith)
+
+said_by : (o : Option Files) (s0 s1 s2 : Option (List ℕ)) (name bytes said : List ℕ) → s1 ≡ s0 → IfSome o (λ files. bytes ≡ content files name) → said ≡ said_of bytes → s2 ≡ append s1 said → IfSome o (λ files. s2 ≡ append s0 (said_of (content files name)))
+said_by None s0 s1 s2 name bytes said a b c d = tt
+said_by (Some files) s0 s1 s2 name bytes said a b c d = d ∙ (ap (λ o. append o said) a ∙ (ap (append s0) c ∙ ap (λ xs. append s0 (said_of xs)) b))
+
+pub says_counts : (result : Result (Unit {0}) DeskFail) (o : Option Files) (s0 s1 s2 : Option (List ℕ)) (name bytes said : List ℕ) → s1 ≡ s0 → IfSome o (λ files. bytes ≡ content files name) → said ≡ said_of bytes → (failure_of result ≡ None → s2 ≡ append s1 said)
+    → OnOk result (IfSome o (λ files. s2 ≡ append s0 (said_of (content files name))))
+says_counts (Ok x) o s0 s1 s2 name bytes said a b c d = said_by o s0 s1 s2 name bytes said a b c (d refl)
+says_counts (Err e) o s0 s1 s2 name bytes said a b c d = tt
+
+pub said_is : (all : Tokens) (lines : List Logical) (bytes text : List ℕ) (n m : ℕ) → all ≡ tokens_of bytes → lines ≡ all.lines → n ≡ length lines → m ≡ counted (tokens_in lines) → text ≡ counts_text n m → encode_utf8_all text ≡ said_of bytes
+said_is all lines bytes text n m e f a b t =
+    ap encode_utf8_all (t ∙ (ap (λ k. counts_text k m) a ∙ (ap (counts_text (length lines)) b ∙ (ap (λ ls. counts_text (length ls) (counted (tokens_in ls))) f ∙ ap (λ (x : Tokens). counts_text (length x.lines) (counted (tokens_in x.lines))) e))))

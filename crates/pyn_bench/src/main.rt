@@ -6,8 +6,10 @@
 //! It stands on `py_lexer` and `pyn_base`, and nothing stands on it.
 #![tactic(auto)]
 
-ghost use Rattle.std.specs.Prelude.{◌≡◌, ◌≤◌, length, IfOk};
-ghost use Rattle.pyn_bench.specs.Counts.{counted, counts_text, tokens_in};
+ghost use Rattle.std.specs.Prelude.{◌≡◌, ◌≤◌, length, chars, IfOk, IfSome, OnOk};
+ghost use Rattle.pyn_base.specs.Desk.{append};
+ghost use Rattle.pyn_base.specs.Files.{content};
+ghost use Rattle.pyn_bench.specs.Counts.{counted, counts_text, said_of, tokens_in};
 
 use py_lexer::{Logical, tokens};
 use pyn_base::{Desk, DeskFail, Memory, RealDesk, Text};
@@ -42,8 +44,11 @@ fn counts_text(alloc: Global, lines: u64, tokens: u64) -> Result<Text, Memory>
     Ok(text)
 }
 
-/// Reads the file, and says what it has.
-fn count<D: Desk>(alloc: Global, desk: &mut D, name: &str) -> Result<(), DeskFail> {
+/// Reads the file, and says how many logical lines and tokens it has.
+fn count<D: Desk>(alloc: Global, desk: &mut D, name: &str) -> Result<(), DeskFail>
+    ensures { OnOk result (IfSome (D.state desk.old).files
+        (λ files. (D.state desk.new).said ≡ append (D.state desk.old).said (said_of (content files (chars name.now))))) }
+{
     let bytes = desk.read(alloc, name, LONGEST)?;
     let all = tokens(alloc, bytes.as_slice())?;
     let lines = all.lines.as_slice();

@@ -1,1 +1,4 @@
+pub mod NumberLemmas
+pub mod NumberSteps
+pub mod ReadLemmas
 pub mod SymbolLemmas

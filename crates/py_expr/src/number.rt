@@ -1,0 +1,285 @@
+// Numbering the nodes of a shape, in the order of reading.
+ghost use Rattle.std.specs.Prelude.{◌≡◌, IfOk, OnOk, map, suc};
+ghost use Rattle.std.specs.Option.{option_map};
+ghost use Rattle.py_language.specs.TreesNumbers.{numbered, in_order, entries, compared, arguments, args, atom};
+ghost use Rattle.py_language.specs.TreesNumbers.{bound as bound_of};
+ghost use Rattle.py_expr.specs.Numbers.{pair_numbered, comparison_numbered, argument_numbered, one_more};
+
+use py_language::{Atom, Shape};
+use py_syntax::{Args, CmpOp, Expr, ExprKind};
+use pyn_base::{Memory, Name, NodeId};
+use sqlite_items::{Boxed, Items};
+use std::alloc::Global;
+
+/// The number behind this one. There are fewer nodes than numbers, so there always is one.
+fn behind(number: u32) -> Result<u32, Memory>
+    ensures { IfOk result (λ n. n ≡ suc number) }
+{
+    match number.checked_add(1) {
+        Some(next) => Ok(next),
+        None => Err(Memory),
+    }
+}
+
+fn expr(number: u32, kind: ExprKind) -> Expr
+    ensures { result ≡ record { node = record { 0 = number }; line = 1; kind = kind } }
+{
+    Expr {
+        node: NodeId(number),
+        line: 1,
+        kind,
+    }
+}
+
+fn leaf(alloc: Global, a: &Atom) -> Result<ExprKind, Memory>
+    ensures { IfOk result (λ k. k ≡ atom a.now) }
+{
+    Ok(match a {
+        Atom::NoneLit => ExprKind::NoneLit,
+        Atom::BoolLit(b) => ExprKind::BoolLit(*b),
+        Atom::IntLit(n) => ExprKind::IntLit(*n),
+        Atom::StrLit(text) => ExprKind::StrLit(text.to_owned(alloc)?),
+        Atom::Name(name) => ExprKind::Name(name.to_owned(alloc)?),
+    })
+}
+
+/// An expression with its numbers from one on, and the number behind them.
+#[cycle(numbers)]
+#[tactic(auto, using(crate::proofs::NumberLemmas::numbers))]
+pub fn numbered(alloc: Global, shape: &Shape, number: u32) -> Result<(Expr, u32), Memory>
+    ensures { IfOk result (λ r. r ≡ numbered shape.now number) }
+{
+    let next = behind(number)?;
+    match shape {
+        Shape::Atom(a) => Ok((expr(number, leaf(alloc, a)?), next)),
+        Shape::Unary(sign, x) => {
+            let (operand, end) = numbered(alloc, x.get(), next)?;
+            Ok((
+                expr(number, ExprKind::Unary(*sign, Boxed::new(alloc, operand)?)),
+                end,
+            ))
+        }
+        Shape::Not(x) => {
+            let (operand, end) = numbered(alloc, x.get(), next)?;
+            Ok((
+                expr(number, ExprKind::Not(Boxed::new(alloc, operand)?)),
+                end,
+            ))
+        }
+        Shape::Binary(op, a, b) => {
+            let (left, middle) = numbered(alloc, a.get(), next)?;
+            let left = Boxed::new(alloc, left)?;
+            let (right, end) = numbered(alloc, b.get(), middle)?;
+            Ok((
+                expr(
+                    number,
+                    ExprKind::Binary(*op, left, Boxed::new(alloc, right)?),
+                ),
+                end,
+            ))
+        }
+        Shape::Cond(a, b, c) => {
+            let (value, first) = numbered(alloc, a.get(), next)?;
+            let value = Boxed::new(alloc, value)?;
+            let (test, second) = numbered(alloc, b.get(), first)?;
+            let test = Boxed::new(alloc, test)?;
+            let (other, end) = numbered(alloc, c.get(), second)?;
+            Ok((
+                expr(
+                    number,
+                    ExprKind::Cond(value, test, Boxed::new(alloc, other)?),
+                ),
+                end,
+            ))
+        }
+        Shape::Attr(x, name) => {
+            let (object, end) = numbered(alloc, x.get(), next)?;
+            Ok((
+                expr(
+                    number,
+                    ExprKind::Attr(Boxed::new(alloc, object)?, name.to_owned(alloc)?),
+                ),
+                end,
+            ))
+        }
+        Shape::Index(x, i) => {
+            let (object, middle) = numbered(alloc, x.get(), next)?;
+            let object = Boxed::new(alloc, object)?;
+            let (index, end) = numbered(alloc, i.get(), middle)?;
+            Ok((
+                expr(number, ExprKind::Index(object, Boxed::new(alloc, index)?)),
+                end,
+            ))
+        }
+        Shape::Slice(x, a, b) => {
+            let (object, first) = numbered(alloc, x.get(), next)?;
+            let object = Boxed::new(alloc, object)?;
+            let (low, second) = bound_numbered(alloc, a, first)?;
+            let (high, end) = bound_numbered(alloc, b, second)?;
+            Ok((expr(number, ExprKind::Slice(object, low, high)), end))
+        }
+        Shape::Call(x, given) => {
+            let (callee, middle) = numbered(alloc, x.get(), next)?;
+            let callee = Boxed::new(alloc, callee)?;
+            let (args, end) = args_numbered(alloc, given.as_slice(), middle)?;
+            Ok((expr(number, ExprKind::Call(callee, args)), end))
+        }
+        Shape::Method(x, name, given) => {
+            let (object, middle) = numbered(alloc, x.get(), next)?;
+            let object = Boxed::new(alloc, object)?;
+            let (args, end) = args_numbered(alloc, given.as_slice(), middle)?;
+            Ok((
+                expr(
+                    number,
+                    ExprKind::Method(object, name.to_owned(alloc)?, args),
+                ),
+                end,
+            ))
+        }
+        Shape::Super(name, given) => {
+            let (args, end) = args_numbered(alloc, given.as_slice(), next)?;
+            Ok((
+                expr(number, ExprKind::Super(name.to_owned(alloc)?, args)),
+                end,
+            ))
+        }
+        Shape::Compare(x, pairs) => {
+            let (first, middle) = numbered(alloc, x.get(), next)?;
+            let first = Boxed::new(alloc, first)?;
+            let (others, end) = compared_numbered(alloc, pairs.as_slice(), middle)?;
+            Ok((expr(number, ExprKind::Compare(first, others)), end))
+        }
+        Shape::DictLit(pairs) => {
+            let (all, end) = entries_numbered(alloc, pairs.as_slice(), next)?;
+            Ok((expr(number, ExprKind::DictLit(all)), end))
+        }
+        Shape::And(items) => {
+            let (all, end) = all_numbered(alloc, items.as_slice(), next)?;
+            Ok((expr(number, ExprKind::And(all)), end))
+        }
+        Shape::Or(items) => {
+            let (all, end) = all_numbered(alloc, items.as_slice(), next)?;
+            Ok((expr(number, ExprKind::Or(all)), end))
+        }
+        Shape::ListLit(items) => {
+            let (all, end) = all_numbered(alloc, items.as_slice(), next)?;
+            Ok((expr(number, ExprKind::ListLit(all)), end))
+        }
+        Shape::TupleLit(items) => {
+            let (all, end) = all_numbered(alloc, items.as_slice(), next)?;
+            Ok((expr(number, ExprKind::TupleLit(all)), end))
+        }
+    }
+}
+
+#[cycle(numbers)]
+#[tactic(auto, using(crate::proofs::NumberLemmas::numbers))]
+fn all_numbered(alloc: Global, shapes: &[Shape], number: u32) -> Result<(Items<Expr>, u32), Memory>
+    ensures { IfOk result (λ r. r ≡ in_order (map numbered shapes.now) number) }
+{
+    let mut all = Items::new(alloc);
+    let mut next = number;
+    for shape in shapes {
+        let (x, end) = numbered(alloc, shape, next)?;
+        all.push(x)?;
+        next = end;
+    }
+    Ok((all, next))
+}
+
+#[cycle(numbers)]
+#[tactic(auto, using(crate::proofs::NumberLemmas::numbers))]
+fn entries_numbered(
+    alloc: Global,
+    pairs: &[(Shape, Shape)],
+    number: u32,
+) -> Result<(Items<(Expr, Expr)>, u32), Memory>
+    ensures { IfOk result (λ r. r ≡ entries (map pair_numbered pairs.now) number) }
+{
+    let mut all = Items::new(alloc);
+    let mut next = number;
+    for pair in pairs {
+        let (key, middle) = numbered(alloc, &pair.0, next)?;
+        let (value, end) = numbered(alloc, &pair.1, middle)?;
+        all.push((key, value))?;
+        next = end;
+    }
+    Ok((all, next))
+}
+
+#[cycle(numbers)]
+#[tactic(auto, using(crate::proofs::NumberLemmas::numbers))]
+fn compared_numbered(
+    alloc: Global,
+    pairs: &[(CmpOp, Shape)],
+    number: u32,
+) -> Result<(Items<(CmpOp, Expr)>, u32), Memory>
+    ensures { IfOk result (λ r. r ≡ compared (map comparison_numbered pairs.now) number) }
+{
+    let mut all = Items::new(alloc);
+    let mut next = number;
+    for pair in pairs {
+        let (x, end) = numbered(alloc, &pair.1, next)?;
+        all.push((pair.0, x))?;
+        next = end;
+    }
+    Ok((all, next))
+}
+
+// Puts one more argument behind these.
+fn push_argument(
+    alloc: Global,
+    plain: &mut Items<Expr>,
+    named: &mut Items<(Name, Expr)>,
+    name: &Option<Name>,
+    x: Expr,
+) -> Result<(), Memory>
+    ensures { OnOk result ((plain.new, named.new) ≡ one_more (plain.old, named.old) name.now x) }
+{
+    match name {
+        None => plain.push(x)?,
+        Some(name) => {
+            let name = name.to_owned(alloc)?;
+            named.push((name, x))?;
+        }
+    }
+    Ok(())
+}
+
+#[cycle(numbers)]
+#[tactic(auto, using(crate::proofs::NumberLemmas::numbers))]
+fn args_numbered(
+    alloc: Global,
+    given: &[(Option<Name>, Shape)],
+    number: u32,
+) -> Result<(Args, u32), Memory>
+    ensures { IfOk result (λ r. r ≡ (args (arguments (map argument_numbered given.now) number).0, (arguments (map argument_numbered given.now) number).1)) }
+{
+    let mut plain = Items::new(alloc);
+    let mut named = Items::new(alloc);
+    let mut next = number;
+    for argument in given {
+        let (x, end) = numbered(alloc, &argument.1, next)?;
+        push_argument(alloc, &mut plain, &mut named, &argument.0, x)?;
+        next = end;
+    }
+    Ok((Args { plain, named }, next))
+}
+
+#[cycle(numbers)]
+#[tactic(auto, using(crate::proofs::NumberLemmas::numbers))]
+fn bound_numbered(
+    alloc: Global,
+    bound: &Option<Boxed<Shape>>,
+    number: u32,
+) -> Result<(Option<Boxed<Expr>>, u32), Memory>
+    ensures { IfOk result (λ r. r ≡ bound_of (option_map numbered bound.now) number) }
+{
+    match bound {
+        None => Ok((None, number)),
+        Some(x) => {
+            let (x, end) = numbered(alloc, x.get(), number)?;
+            Ok((Some(Boxed::new(alloc, x)?), end))
+        }
+    }
+}

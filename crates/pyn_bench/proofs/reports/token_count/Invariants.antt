@@ -1,6 +1,6 @@
 use Rattle.std.proofs.Common.{◌≡◌, ◌+◌, ◌^◌, ◌<◌, length}
-use Rattle.pyn_bench.specs.Counts.{counted, tokens_in}
-use Rattle.pyn_bench.proofs.token_count.Given as goal
+use Rattle.pyn_bench.specs.Reports.{counted, tokens_in}
+use Rattle.pyn_bench.proofs.reports.token_count.Given as goal
 
 abbrev pub invariant-loop-line : goal.invariant-loop-line
 invariant-loop-line l = record {

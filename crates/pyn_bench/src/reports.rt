@@ -1,0 +1,88 @@
+// What is said of a text's logical lines.
+ghost use Rattle.std.specs.Prelude.{◌≡◌, length, IfOk};
+ghost use Rattle.std.specs.Option.{is_some};
+ghost use Rattle.py_language.specs.Trees.{tree_of};
+ghost use Rattle.pyn_bench.specs.Reports.{counted, tokens_in, counts_report, first_line, expression_report, report};
+
+use py_expr::{ExprFault, read_expr};
+use py_lexer::{Logical, Token};
+use pyn_base::{Memory, Text};
+use std::alloc::Global;
+
+/// What a text is read as.
+#[derive(Clone, Copy, Debug, PartialEq, Eq)]
+pub enum Reading {
+    /// Its tokens are counted.
+    Tokens,
+    /// The first logical line is read as one expression.
+    Expression,
+}
+
+fn token_count(lines: &[Logical]) -> u64
+    ensures { result ≡ counted (tokens_in lines.now) }
+{
+    let mut count: u64 = 0;
+    let mut rest = lines;
+    while let Some((line, more)) = rest.split_first() {
+        count = count.saturating_add(line.tokens.len() as u64);
+        rest = more;
+    }
+    count
+}
+
+fn counts_report(alloc: Global, lines: &[Logical]) -> Result<Text, Memory>
+    ensures { IfOk result (λ t. t ≡ counts_report lines.now) }
+{
+    let mut text = Text::new(alloc);
+    text.push_ascii(b"lines ")?;
+    text.push_number(lines.len() as u64)?;
+    text.push_ascii(b"\ntokens ")?;
+    text.push_number(token_count(lines))?;
+    text.push_ascii(b"\n")?;
+    Ok(text)
+}
+
+/// The tokens of the first logical line.
+fn first_line(lines: &[Logical]) -> &[Token]
+    ensures { result.now ≡ first_line lines.now }
+{
+    match lines.split_first() {
+        Some((line, _others)) => line.tokens.as_slice(),
+        None => &[],
+    }
+}
+
+/// Whether the tokens are one expression, which is found by reading it.
+fn is_expression(alloc: Global, tokens: &[Token]) -> Result<bool, Memory>
+    ensures { IfOk result (λ found. found ≡ is_some (tree_of tokens.now)) }
+{
+    match read_expr(alloc, tokens) {
+        Ok(_tree) => Ok(true),
+        Err(ExprFault::Refused) => Ok(false),
+        Err(ExprFault::Memory) => Err(Memory),
+    }
+}
+
+fn expression_report(alloc: Global, tokens: &[Token]) -> Result<Text, Memory>
+    ensures { IfOk result (λ t. t ≡ expression_report tokens.now) }
+{
+    let mut text = Text::new(alloc);
+    text.push_ascii(b"tokens ")?;
+    text.push_number(tokens.len() as u64)?;
+    if is_expression(alloc, tokens)? {
+        text.push_ascii(b"\nread\n")?;
+    } else {
+        text.push_ascii(b"\nrefused\n")?;
+    }
+    Ok(text)
+}
+
+/// What is said of logical lines.
+pub fn report(alloc: Global, reading: Reading, lines: &[Logical]) -> Result<Text, Memory>
+    ensures { IfOk result (λ t. t ≡ report reading lines.now) }
+{
+    match reading {
+        Reading::Tokens => counts_report(alloc, lines),
+        Reading::Expression => expression_report(alloc, first_line(lines)),
+    }
+}

@@ -10,7 +10,9 @@ use Rattle.py_language.specs.TreesNumbers.{Numbered, Given, node, numbered, in_o
 use Rattle.std.specs.Option.{option_map}
 use Rattle.py_syntax.specs.declared.operator.CmpOp.{CmpOp}
 use Rattle.py_syntax.specs.declared.expr.Args.{Args, roll-Args}
-use Rattle.py_expr.specs.Numbers.{pair_numbered, comparison_numbered, argument_numbered, one_more}
+use Rattle.py_expr.specs.Numbers.{pair_numbered, comparison_numbered, argument_numbered, one_more, row_kind, row_shape}
+use Rattle.py_expr.specs.declared.number.Row.{Row}
+use Rattle.py_expr.specs.declared.number.Row.TheVariants as row
 use Rattle.py_syntax.specs.declared.expr.ExprKind.{ExprKind}
 use Rattle.py_language.proofs.TreesNumbering.{numbered-And, numbered-Or, numbered-ListLit, numbered-TupleLit, numbered-DictLit, numbered-Compare, numbered-Slice}
 
@@ -24,7 +26,7 @@ nothing_done r = refl
 pub all_done : {X : Type 0} (done : List X) (n : ℕ) → behind_done done ([], n) ≡ (done, n)
 all_done done n = ap (λ xs. (xs, n)) (append-nil done)
 
-rest_of : {X : Type 0} (xs : List X) (i : ℕ) (x : X) → i < length xs → x ≡ get_or xs i x → drop i xs ≡ x ∷ drop (i + 1) xs
+pub rest_of : {X : Type 0} (xs : List X) (i : ℕ) (x : X) → i < length xs → x ≡ get_or xs i x → drop i xs ≡ x ∷ drop (i + 1) xs
 rest_of xs i x lt is = rw (drop-cons xs i x lt, ← is, add-one) refl
 
 -- one more of a list of shapes
@@ -44,13 +46,6 @@ pub shapes_done : (shapes : List Shape) (i : ℕ) (done : List Expr) (n : ℕ) (
 shapes_done shapes i done n whole none before =
     sym (before ∙ ap (λ xs. behind_done done (in_order (map numbered xs) n)) none ∙ all_done done n)
 
--- the nodes whose parts are a list of shapes
-pub and_is : (shape : Shape) (xs : List Shape) (k next : ℕ) (all : List Expr) (end : ℕ) → shape ≡ s.And xs → next ≡ suc k → (all, end) ≡ in_order (map numbered xs) next
-    → (record { node = record { 0 = k }; line = 1; kind = e.And all }, end) ≡ numbered shape k
-and_is shape xs k next all end is n r =
-    sym (ap (λ x. numbered x k) is ∙ numbered-And xs k
-    ∙ ap (λ (p : List Expr × ℕ). (record { node = record { 0 = k }; line = 1; kind = e.And p.0 }, p.1)) (sym (r ∙ ap (in_order (map numbered xs)) n)))
-
 -- ---- a node, from the numbers of its parts
 
 pub node_is : {X : Type 0} (make : X → ExprKind) (p : Numbered X) (k next : ℕ) (x : X) (end : ℕ) (made : Expr) (whole : Expr × ℕ) → whole ≡ node (λ n. (make (p n).0, (p n).1)) k → next ≡ suc k → (x, end) ≡ p next
@@ -60,17 +55,12 @@ node_is make p k next x end made whole w n r m =
     ∙ ap (λ q. (record { node = record { 0 = k }; line = 1; kind = make q.0 }, q.1)) (r ∙ ap p n)
     ∙ sym w
 
-pub lists_is : (shape : Shape) (xs : List Shape) (k : ℕ) → shape ≡ s.And xs → numbered shape k ≡ node (λ n. (e.And (in_order (map numbered xs) n).0, (in_order (map numbered xs) n).1)) k
-lists_is shape xs k is = ap (λ x. numbered x k) is ∙ numbered-And xs k
-
-pub or_is : (shape : Shape) (xs : List Shape) (k : ℕ) → shape ≡ s.Or xs → numbered shape k ≡ node (λ n. (e.Or (in_order (map numbered xs) n).0, (in_order (map numbered xs) n).1)) k
-or_is shape xs k is = ap (λ x. numbered x k) is ∙ numbered-Or xs k
-
-pub list_is : (shape : Shape) (xs : List Shape) (k : ℕ) → shape ≡ s.ListLit xs → numbered shape k ≡ node (λ n. (e.ListLit (in_order (map numbered xs) n).0, (in_order (map numbered xs) n).1)) k
-list_is shape xs k is = ap (λ x. numbered x k) is ∙ numbered-ListLit xs k
-
-pub tuple_is : (shape : Shape) (xs : List Shape) (k : ℕ) → shape ≡ s.TupleLit xs → numbered shape k ≡ node (λ n. (e.TupleLit (in_order (map numbered xs) n).0, (in_order (map numbered xs) n).1)) k
-tuple_is shape xs k is = ap (λ x. numbered x k) is ∙ numbered-TupleLit xs k
+-- a node whose parts are a list of shapes
+pub row_is : (r : Row) (xs : List Shape) (k : ℕ) → numbered (row_shape r xs) k ≡ node (λ n. (row_kind r (in_order (map numbered xs) n).0, (in_order (map numbered xs) n).1)) k
+row_is row.And xs k = numbered-And xs k
+row_is row.Or xs k = numbered-Or xs k
+row_is row.List xs k = numbered-ListLit xs k
+row_is row.Tuple xs k = numbered-TupleLit xs k
 
 pub dict_is : (shape : Shape) (xs : List (Shape × Shape)) (k : ℕ) → shape ≡ s.DictLit xs → numbered shape k ≡ node (λ n. (e.DictLit (entries (map pair_numbered xs) n).0, (entries (map pair_numbered xs) n).1)) k
 dict_is shape xs k is = ap (λ x. numbered x k) is ∙ numbered-DictLit xs k

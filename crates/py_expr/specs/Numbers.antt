@@ -1,9 +1,14 @@
 -- The parts of a node, each of which is numbered.
-use Rattle.std.specs.Prelude.{ℕ, List, [], ◌∷◌, ◌++◌, Option, Some, None}
+use Rattle.std.specs.Prelude.{ℕ, Bool, true, false, List, [], ◌∷◌, ◌++◌, Option, Some, None}
 use Rattle.py_syntax.specs.declared.expr.Expr.{Expr}
+use Rattle.py_syntax.specs.declared.expr.ExprKind.{ExprKind}
+use Rattle.py_syntax.specs.declared.expr.ExprKind.TheVariants as e
 use Rattle.py_syntax.specs.declared.operator.CmpOp.{CmpOp}
-use Rattle.py_language.specs.declared.shape.Shape.{Shape}
+use Rattle.py_language.specs.declared.shape.Shape.{Shape, Shape-F, out-Shape}
+use Rattle.py_language.specs.declared.shape.Shape.TheVariants as s
 use Rattle.py_language.specs.TreesNumbers.{Numbered, Given, numbered}
+use Rattle.py_expr.specs.declared.number.Row.{Row}
+use Rattle.py_expr.specs.declared.number.Row.TheVariants as row
 
 abbrev pub pair_numbered : Shape × Shape → Numbered Expr × Numbered Expr
 pair_numbered p = (numbered p.0, numbered p.1)
@@ -18,3 +23,29 @@ argument_numbered p = (p.0, numbered p.1)
 abbrev pub one_more : Given → Option (List ℕ) → Expr → Given
 one_more done None x = (done.0 ++ x ∷ [], done.1)
 one_more done (Some name) x = (done.0, done.1 ++ (name, x) ∷ [])
+
+-- a node whose parts are a list of expressions
+abbrev pub row_kind : Row → List Expr → ExprKind
+row_kind row.And all = e.And all
+row_kind row.Or all = e.Or all
+row_kind row.List all = e.ListLit all
+row_kind row.Tuple all = e.TupleLit all
+
+abbrev pub row_shape : Row → List Shape → Shape
+row_shape row.And xs = s.And xs
+row_shape row.Or xs = s.Or xs
+row_shape row.List xs = s.ListLit xs
+row_shape row.Tuple xs = s.TupleLit xs
+
+-- an operand with a group behind it, or a call by `super`
+abbrev pub primary_node : Shape-F Shape → Bool
+primary_node (Shape-F.Attr x n) = true
+primary_node (Shape-F.Index x i) = true
+primary_node (Shape-F.Slice x a b) = true
+primary_node (Shape-F.Call x given) = true
+primary_node (Shape-F.Method x n given) = true
+primary_node (Shape-F.Super n given) = true
+primary_node _ = false
+
+abbrev pub is_primary : Shape → Bool
+is_primary x = primary_node (out-Shape x)

@@ -1,9 +1,9 @@
 // Numbering the nodes of a shape, in the order of reading.
-ghost use Rattle.std.specs.Prelude.{◌≡◌, IfOk, OnOk, map, suc};
+ghost use Rattle.std.specs.Prelude.{◌≡◌, IfOk, OnOk, map, suc, true};
 ghost use Rattle.std.specs.Option.{option_map};
 ghost use Rattle.py_language.specs.TreesNumbers.{numbered, in_order, entries, compared, arguments, args, atom};
 ghost use Rattle.py_language.specs.TreesNumbers.{bound as bound_of};
-ghost use Rattle.py_expr.specs.Numbers.{pair_numbered, comparison_numbered, argument_numbered, one_more};
+ghost use Rattle.py_expr.specs.Numbers.{pair_numbered, comparison_numbered, argument_numbered, one_more, row_kind, row_shape, is_primary};
 
 use py_language::{Atom, Shape};
 use py_syntax::{Args, CmpOp, Expr, ExprKind};
@@ -43,6 +43,26 @@ fn leaf(alloc: Global, a: &Atom) -> Result<ExprKind, Memory>
     })
 }
 
+/// What a node is whose parts are a list of expressions.
+#[derive(Clone, Copy)]
+enum Row {
+    And,
+    Or,
+    List,
+    Tuple,
+}
+
+fn row_kind(row: Row, all: Items<Expr>) -> ExprKind
+    ensures { result ≡ row_kind row all }
+{
+    match row {
+        Row::And => ExprKind::And(all),
+        Row::Or => ExprKind::Or(all),
+        Row::List => ExprKind::ListLit(all),
+        Row::Tuple => ExprKind::TupleLit(all),
+    }
+}
+
 /// An expression with its numbers from one on, and the number behind them.
 #[cycle(numbers)]
 #[tactic(auto, using(crate::proofs::NumberLemmas::numbers))]
@@ -53,123 +73,110 @@ pub fn numbered(alloc: Global, shape: &Shape, number: u32) -> Result<(Expr, u32)
     match shape {
         Shape::Atom(a) => Ok((expr(number, leaf(alloc, a)?), next)),
         Shape::Unary(sign, x) => {
-            let (operand, end) = numbered(alloc, x.get(), next)?;
-            Ok((
-                expr(number, ExprKind::Unary(*sign, Boxed::new(alloc, operand)?)),
-                end,
-            ))
+            let (operand, end) = part_numbered(alloc, x.get(), next)?;
+            Ok((expr(number, ExprKind::Unary(*sign, operand)), end))
         }
         Shape::Not(x) => {
-            let (operand, end) = numbered(alloc, x.get(), next)?;
-            Ok((
-                expr(number, ExprKind::Not(Boxed::new(alloc, operand)?)),
-                end,
-            ))
+            let (operand, end) = part_numbered(alloc, x.get(), next)?;
+            Ok((expr(number, ExprKind::Not(operand)), end))
         }
         Shape::Binary(op, a, b) => {
-            let (left, middle) = numbered(alloc, a.get(), next)?;
-            let left = Boxed::new(alloc, left)?;
-            let (right, end) = numbered(alloc, b.get(), middle)?;
-            Ok((
-                expr(
-                    number,
-                    ExprKind::Binary(*op, left, Boxed::new(alloc, right)?),
-                ),
-                end,
-            ))
+            let (left, middle) = part_numbered(alloc, a.get(), next)?;
+            let (right, end) = part_numbered(alloc, b.get(), middle)?;
+            Ok((expr(number, ExprKind::Binary(*op, left, right)), end))
+        }
+        Shape::Compare(x, pairs) => {
+            let (first, middle) = part_numbered(alloc, x.get(), next)?;
+            let (others, end) = compared_numbered(alloc, pairs.as_slice(), middle)?;
+            Ok((expr(number, ExprKind::Compare(first, others)), end))
         }
         Shape::Cond(a, b, c) => {
-            let (value, first) = numbered(alloc, a.get(), next)?;
-            let value = Boxed::new(alloc, value)?;
-            let (test, second) = numbered(alloc, b.get(), first)?;
-            let test = Boxed::new(alloc, test)?;
-            let (other, end) = numbered(alloc, c.get(), second)?;
-            Ok((
-                expr(
-                    number,
-                    ExprKind::Cond(value, test, Boxed::new(alloc, other)?),
-                ),
-                end,
-            ))
+            let (value, first) = part_numbered(alloc, a.get(), next)?;
+            let (test, second) = part_numbered(alloc, b.get(), first)?;
+            let (other, end) = part_numbered(alloc, c.get(), second)?;
+            Ok((expr(number, ExprKind::Cond(value, test, other)), end))
         }
+        Shape::And(items) => row_numbered(alloc, Row::And, items.as_slice(), number),
+        Shape::Or(items) => row_numbered(alloc, Row::Or, items.as_slice(), number),
+        Shape::ListLit(items) => row_numbered(alloc, Row::List, items.as_slice(), number),
+        Shape::TupleLit(items) => row_numbered(alloc, Row::Tuple, items.as_slice(), number),
+        Shape::DictLit(pairs) => {
+            let (all, end) = entries_numbered(alloc, pairs.as_slice(), next)?;
+            Ok((expr(number, ExprKind::DictLit(all)), end))
+        }
+        _ => primary_numbered(alloc, shape, number),
+    }
+}
+
+/// A primary: an operand with a group behind it, or a call by `super`.
+#[cycle(numbers)]
+#[tactic(auto, using(crate::proofs::NumberLemmas::numbers))]
+fn primary_numbered(alloc: Global, shape: &Shape, number: u32) -> Result<(Expr, u32), Memory>
+    requires { is_primary shape.now ≡ true }
+    ensures { IfOk result (λ r. r ≡ numbered shape.now number) }
+{
+    let next = behind(number)?;
+    match shape {
         Shape::Attr(x, name) => {
-            let (object, end) = numbered(alloc, x.get(), next)?;
-            Ok((
-                expr(
-                    number,
-                    ExprKind::Attr(Boxed::new(alloc, object)?, name.to_owned(alloc)?),
-                ),
-                end,
-            ))
+            let (object, end) = part_numbered(alloc, x.get(), next)?;
+            let name = name.to_owned(alloc)?;
+            Ok((expr(number, ExprKind::Attr(object, name)), end))
         }
         Shape::Index(x, i) => {
-            let (object, middle) = numbered(alloc, x.get(), next)?;
-            let object = Boxed::new(alloc, object)?;
-            let (index, end) = numbered(alloc, i.get(), middle)?;
-            Ok((
-                expr(number, ExprKind::Index(object, Boxed::new(alloc, index)?)),
-                end,
-            ))
+            let (object, middle) = part_numbered(alloc, x.get(), next)?;
+            let (index, end) = part_numbered(alloc, i.get(), middle)?;
+            Ok((expr(number, ExprKind::Index(object, index)), end))
         }
         Shape::Slice(x, a, b) => {
-            let (object, first) = numbered(alloc, x.get(), next)?;
-            let object = Boxed::new(alloc, object)?;
+            let (object, first) = part_numbered(alloc, x.get(), next)?;
             let (low, second) = bound_numbered(alloc, a, first)?;
             let (high, end) = bound_numbered(alloc, b, second)?;
             Ok((expr(number, ExprKind::Slice(object, low, high)), end))
         }
         Shape::Call(x, given) => {
-            let (callee, middle) = numbered(alloc, x.get(), next)?;
-            let callee = Boxed::new(alloc, callee)?;
+            let (callee, middle) = part_numbered(alloc, x.get(), next)?;
             let (args, end) = args_numbered(alloc, given.as_slice(), middle)?;
             Ok((expr(number, ExprKind::Call(callee, args)), end))
         }
         Shape::Method(x, name, given) => {
-            let (object, middle) = numbered(alloc, x.get(), next)?;
-            let object = Boxed::new(alloc, object)?;
+            let (object, middle) = part_numbered(alloc, x.get(), next)?;
             let (args, end) = args_numbered(alloc, given.as_slice(), middle)?;
-            Ok((
-                expr(
-                    number,
-                    ExprKind::Method(object, name.to_owned(alloc)?, args),
-                ),
-                end,
-            ))
+            let name = name.to_owned(alloc)?;
+            Ok((expr(number, ExprKind::Method(object, name, args)), end))
         }
         Shape::Super(name, given) => {
             let (args, end) = args_numbered(alloc, given.as_slice(), next)?;
-            Ok((
-                expr(number, ExprKind::Super(name.to_owned(alloc)?, args)),
-                end,
-            ))
+            let name = name.to_owned(alloc)?;
+            Ok((expr(number, ExprKind::Super(name, args)), end))
         }
-        Shape::Compare(x, pairs) => {
-            let (first, middle) = numbered(alloc, x.get(), next)?;
-            let first = Boxed::new(alloc, first)?;
-            let (others, end) = compared_numbered(alloc, pairs.as_slice(), middle)?;
-            Ok((expr(number, ExprKind::Compare(first, others)), end))
-        }
-        Shape::DictLit(pairs) => {
-            let (all, end) = entries_numbered(alloc, pairs.as_slice(), next)?;
-            Ok((expr(number, ExprKind::DictLit(all)), end))
-        }
-        Shape::And(items) => {
-            let (all, end) = all_numbered(alloc, items.as_slice(), next)?;
-            Ok((expr(number, ExprKind::And(all)), end))
-        }
-        Shape::Or(items) => {
-            let (all, end) = all_numbered(alloc, items.as_slice(), next)?;
-            Ok((expr(number, ExprKind::Or(all)), end))
-        }
-        Shape::ListLit(items) => {
-            let (all, end) = all_numbered(alloc, items.as_slice(), next)?;
-            Ok((expr(number, ExprKind::ListLit(all)), end))
-        }
-        Shape::TupleLit(items) => {
-            let (all, end) = all_numbered(alloc, items.as_slice(), next)?;
-            Ok((expr(number, ExprKind::TupleLit(all)), end))
-        }
+        _ => unreachable!(),
     }
+}
+
+/// A part of a node.
+#[cycle(numbers)]
+#[tactic(auto, using(crate::proofs::NumberLemmas::numbers))]
+fn part_numbered(alloc: Global, shape: &Shape, number: u32) -> Result<(Boxed<Expr>, u32), Memory>
+    ensures { IfOk result (λ r. r ≡ numbered shape.now number) }
+{
+    let (x, end) = numbered(alloc, shape, number)?;
+    Ok((Boxed::new(alloc, x)?, end))
+}
+
+/// A node whose parts are a list of expressions.
+#[cycle(numbers)]
+#[tactic(auto, using(crate::proofs::NumberLemmas::numbers))]
+fn row_numbered(
+    alloc: Global,
+    row: Row,
+    shapes: &[Shape],
+    number: u32,
+) -> Result<(Expr, u32), Memory>
+    ensures { IfOk result (λ r. r ≡ numbered (row_shape row shapes.now) number) }
+{
+    let next = behind(number)?;
+    let (all, end) = all_numbered(alloc, shapes, next)?;
+    Ok((expr(number, row_kind(row, all)), end))
 }
 
 #[cycle(numbers)]
@@ -278,8 +285,8 @@ fn bound_numbered(
     match bound {
         None => Ok((None, number)),
         Some(x) => {
-            let (x, end) = numbered(alloc, x.get(), number)?;
-            Ok((Some(Boxed::new(alloc, x)?), end))
+            let (x, end) = part_numbered(alloc, x.get(), number)?;
+            Ok((Some(x), end))
         }
     }
 }

@@ -3,8 +3,8 @@ use Rattle.std.specs.Option.{option_map}
 use Rattle.py_syntax.specs.declared.expr.ExprKind.TheVariants as e
 use Rattle.py_language.specs.declared.shape.Shape.TheVariants as s
 use Rattle.py_language.specs.TreesNumbers.{numbered, in_order, entries, compared, bound}
-use Rattle.py_expr.specs.Numbers.{pair_numbered, comparison_numbered}
-use Rattle.py_expr.proofs.NumberSteps.{shape_done, pair_done, comparison_done, argument_done, entries_done, comparisons_done, arguments_done, node_is, lists_is, or_is, list_is, tuple_is, dict_is, both, then_is, compare_is, slice_is}
+use Rattle.py_expr.specs.Numbers.{pair_numbered, comparison_numbered, row_kind}
+use Rattle.py_expr.proofs.NumberSteps.{shape_done, pair_done, comparison_done, argument_done, entries_done, comparisons_done, arguments_done, node_is, row_is, dict_is, both, then_is, compare_is, slice_is}
 use Rattle.py_expr.proofs.number.+numbers.Goals as goal
 
 pub all_numbered-loop-shape-preserved : goal.all_numbered-loop-shape-preserved
@@ -32,25 +32,10 @@ args_numbered-loop-argument-preserved h c =
 pub args_numbered-returns : goal.args_numbered-returns
 args_numbered-returns h c = arguments_done _ _ _ _ _ c.loop-argument-test.false c.loop-argument.invariant
 
-pub numbered-returns-in_ok-all-in-And : goal.numbered-returns-in_ok-all-in-And
-numbered-returns-in_ok-all-in-And h c =
-    node_is e.And (in_order (map numbered c.as_slice-in-And.result.now)) c.args.number _ _ _ _ _ (lists_is _ c.as_slice-in-And.result.now c.args.number (c.in-And.is ∙ ap s.And (sym c.as_slice-in-And.ensures)))
-    c.in_ok-next.ensures c.in_ok-all-in-And.ensures c.expr-in-And.ensures
-
-pub numbered-returns-in_ok-all-in-Or : goal.numbered-returns-in_ok-all-in-Or
-numbered-returns-in_ok-all-in-Or h c =
-    node_is e.Or (in_order (map numbered c.as_slice-in-Or.result.now)) c.args.number _ _ _ _ _ (or_is _ c.as_slice-in-Or.result.now c.args.number (c.in-Or.is ∙ ap s.Or (sym c.as_slice-in-Or.ensures)))
-    c.in_ok-next.ensures c.in_ok-all-in-Or.ensures c.expr-in-Or.ensures
-
-pub numbered-returns-in_ok-all-in-ListLit : goal.numbered-returns-in_ok-all-in-ListLit
-numbered-returns-in_ok-all-in-ListLit h c =
-    node_is e.ListLit (in_order (map numbered c.as_slice-in-ListLit.result.now)) c.args.number _ _ _ _ _ (list_is _ c.as_slice-in-ListLit.result.now c.args.number (c.in-ListLit.is ∙ ap s.ListLit (sym c.as_slice-in-ListLit.ensures)))
-    c.in_ok-next.ensures c.in_ok-all-in-ListLit.ensures c.expr-in-ListLit.ensures
-
-pub numbered-returns-in_ok-all-in-TupleLit : goal.numbered-returns-in_ok-all-in-TupleLit
-numbered-returns-in_ok-all-in-TupleLit h c =
-    node_is e.TupleLit (in_order (map numbered c.as_slice-in-TupleLit.result.now)) c.args.number _ _ _ _ _ (tuple_is _ c.as_slice-in-TupleLit.result.now c.args.number (c.in-TupleLit.is ∙ ap s.TupleLit (sym c.as_slice-in-TupleLit.ensures)))
-    c.in_ok-next.ensures c.in_ok-all-in-TupleLit.ensures c.expr-in-TupleLit.ensures
+pub row_numbered-returns : goal.row_numbered-returns
+row_numbered-returns h c =
+    node_is (row_kind c.args.row) (in_order (map numbered c.args.shapes.now)) c.args.number _ _ _ _ _ (row_is c.args.row c.args.shapes.now c.args.number)
+    c.in_ok-next.ensures c.in_ok-all.ensures (c.expr.ensures ∙ ap (λ k. record { node = record { 0 = c.args.number }; line = 1; kind = k }) c.row_kind.ensures)
 
 pub numbered-returns-in_ok-all-in-DictLit : goal.numbered-returns-in_ok-all-in-DictLit
 numbered-returns-in_ok-all-in-DictLit h c =
@@ -59,16 +44,16 @@ numbered-returns-in_ok-all-in-DictLit h c =
 
 pub numbered-returns-in_ok-others-in-Compare : goal.numbered-returns-in_ok-others-in-Compare
 numbered-returns-in_ok-others-in-Compare h c =
-    let ps = c.as_slice-in-Compare.result.now in
+    let ps = c.as_slice.result.now in
     let x = c.get-in-Compare.result.now in
     node_is (λ q. e.Compare q.0 q.1) (both (numbered x) (compared (map comparison_numbered ps))) c.args.number _ _ _ _ _
-    (compare_is _ x ps c.args.number (c.in-Compare.is ∙ ap₂ s.Compare (sym c.get-in-Compare.ensures) (sym c.as_slice-in-Compare.ensures)))
+    (compare_is _ x ps c.args.number (c.in-Compare.is ∙ ap₂ s.Compare (sym c.get-in-Compare.ensures) (sym c.as_slice.ensures)))
     c.in_ok-next.ensures
     (then_is (numbered x) (compared (map comparison_numbered ps)) _ _ _ _ _ c.in_ok-first-in-Compare.ensures c.in_ok-others-in-Compare.ensures)
-    (c.expr-in-Compare.ensures ∙ ap (λ y. record { node = record { 0 = c.args.number }; line = 1; kind = e.Compare y c.in_ok-others-in-Compare.others }) c.in_ok-first-in-Compare-2.ensures)
+    c.expr-in-Compare.ensures
 
-pub numbered-returns-in_ok-high-in-Slice : goal.numbered-returns-in_ok-high-in-Slice
-numbered-returns-in_ok-high-in-Slice h c =
+pub primary_numbered-returns-in_ok-high-in-Slice : goal.primary_numbered-returns-in_ok-high-in-Slice
+primary_numbered-returns-in_ok-high-in-Slice h c =
     let x = c.get-in-Slice.result.now in
     let a = c.in-Slice.a in
     let b = c.in-Slice.b in
@@ -79,4 +64,4 @@ numbered-returns-in_ok-high-in-Slice h c =
     (then_is first (bound (option_map numbered b)) _ _ _ _ _
     (then_is (numbered x) (bound (option_map numbered a)) _ _ _ _ _ c.in_ok-object-in-Slice.ensures c.in_ok-low-in-Slice.ensures)
     c.in_ok-high-in-Slice.ensures)
-    (c.expr-in-Slice.ensures ∙ ap (λ y. record { node = record { 0 = c.args.number }; line = 1; kind = e.Slice y c.in_ok-low-in-Slice.low c.in_ok-high-in-Slice.high }) c.in_ok-object-in-Slice-2.ensures)
+    c.expr-in-Slice.ensures

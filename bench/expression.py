@@ -7,6 +7,7 @@ FORMS = {
     "conjunction": ("", "a", " and ", ""),
     "comparisons": ("", "a", " < ", ""),
     "arguments": ("f(", "a", ", ", ")"),
+    "strings": ("(", "'a' 'b'", " ", ")"),
 }
 
 front, part, mark, end = FORMS[sys.argv[1]]

@@ -8,7 +8,7 @@ program="$PWD/crates/pyn_bench/out/pyn_bench"
 folder="$(mktemp -d)"
 trap 'rm -rf "$folder"' EXIT
 TIMEFORMAT='%R seconds'
-for form in display conjunction comparisons arguments; do
+for form in display conjunction comparisons arguments strings; do
     for count in 10000 100000 1000000; do
         python3 bench/expression.py "$form" "$count" >"$folder/one.py"
         echo "$form:" $("$program" expression "$folder/one.py")

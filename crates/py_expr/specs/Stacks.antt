@@ -46,7 +46,36 @@ abbrev pub Undots : List Token → Option (Bor (List Token)) → Type 0
 Undots xs (Some r) = xs ≡ r.now ++ token.Mark Dot ∷ []
 Undots xs None = (ys : List Token) → xs ≡ ys ++ token.Mark Dot ∷ [] → ⊥
 
+-- the tokens end with a string, and these stand before it
+abbrev pub Unquotes : List Token → Option (Bor (List Token)) → Type 0
+Unquotes xs (Some r) = (s : List ℕ) × (xs ≡ r.now ++ token.Str s ∷ [])
+Unquotes xs None = Unit {0}
+
+abbrev pub AreStrings : List Token → Type 0
+AreStrings [] = Unit {0}
+AreStrings (token.Str s ∷ xs) = AreStrings xs
+AreStrings (_ ∷ xs) = ⊥
+
+abbrev pub text_of : Token → List ℕ
+text_of (token.Str s) = s
+text_of _ = []
+
+-- the texts of strings, one behind the other, and then a last one
+abbrev pub glued : List Token → List ℕ → List ℕ
+glued [] last = last
+glued (x ∷ xs) last = text_of x ++ glued xs last
+
 -- the symbols after one more token, and what stands before it
+abbrev pub PushedAlone : List Token → Token → List Symbol → List Symbol → List Token → Type 0
+PushedAlone before x old new rest = (rest ≡ before) × (new ≡ join (symbol x) old) × ((n : List ℕ) → x ≡ token.Name n → (ys : List Token) → before ≡ ys ++ token.Mark Dot ∷ [] → ⊥)
+
+-- a name, with the dot before it
+abbrev pub PushedDotted : List Token → Token → List Symbol → List Symbol → List Token → Type 0
+PushedDotted before x old new rest = (n : List ℕ) × (x ≡ token.Name n) × (before ≡ rest ++ token.Mark Dot ∷ []) × (new ≡ attribute n old)
+
+-- a string, with strings before it
+abbrev pub PushedStrings : List Token → Token → List Symbol → List Symbol → List Token → Type 0
+PushedStrings before x old new rest = (s : List ℕ) × (strings : List Token) × (x ≡ token.Str s) × (before ≡ rest ++ strings) × AreStrings strings × (new ≡ join (Atom (StrLit (glued strings s))) old)
+
 abbrev pub Pushed : List Token → Token → List Symbol → List Symbol → List Token → Type 0
-Pushed before x old new rest = ((rest ≡ before) × (new ≡ join (symbol x) old) × ((n : List ℕ) → x ≡ token.Name n → (ys : List Token) → before ≡ ys ++ token.Mark Dot ∷ [] → ⊥))
-    ⊎ ((n : List ℕ) × (x ≡ token.Name n) × (before ≡ rest ++ token.Mark Dot ∷ []) × (new ≡ attribute n old))
+Pushed before x old new rest = PushedAlone before x old new rest ⊎ PushedDotted before x old new rest ⊎ PushedStrings before x old new rest

@@ -1,10 +1,10 @@
 // The symbols of a list of tokens, made from the last one on.
-ghost use Rattle.std.specs.Prelude.{◌≡◌, ◌++◌, ◌∷◌, [], IfOk, OnOk, MatchOption, ◌&&◌};
+ghost use Rattle.std.specs.Prelude.{◌≡◌, ◌++◌, ◌∷◌, [], IfOk, OnOk, MatchOption, ◌&&◌, chars};
 ghost use Rattle.py_language.specs.TreesSymbols.{keyword_symbol, mark_symbol, symbol, symbols, join, named, attribute, is_super};
 ghost use Rattle.py_language.specs.declared.token.Token.TheVariants as token;
 ghost use Rattle.py_language.specs.declared.shape.Atom.TheVariants as atom;
 ghost use Rattle.py_language.specs.declared.shape.Symbol.TheVariants as symbol;
-ghost use Rattle.py_expr.specs.Stacks.{Undots, Pushed, SuperOf, begins_called};
+ghost use Rattle.py_expr.specs.Stacks.{Undots, Unquotes, AreStrings, text_of, glued, Pushed, SuperOf, begins_called};
 
 use crate::stack::Stack;
 use py_language::{Atom, Bracket, Keyword, Mark, Symbol, Token};
@@ -169,23 +169,73 @@ fn undotted(tokens: &[Token]) -> Option<&[Token]>
     }
 }
 
-/// Two texts, one behind the other.
-fn joined(alloc: Global, first: &Text, second: &Text) -> Result<Text, Memory>
-    ensures { IfOk result (λ t. t ≡ first.now ++ second.now) }
+/// What stands before a string at the end.
+fn unquoted(tokens: &[Token]) -> Option<&[Token]>
+    ensures { Unquotes tokens.now result }
 {
-    let mut text = String::from_str(alloc, first.as_str())?;
-    text.push_str(second.as_str())?;
-    Ok(Text::from_string(text))
+    let (last, before) = last_of(tokens)?;
+    match last {
+        Token::Str(_) => Some(before),
+        _ => None,
+    }
 }
 
-fn push_string(alloc: Global, stack: &mut Stack, text: &Text) -> Result<(), Memory>
-    ensures { OnOk result (stack.new ≡ join (symbol.Atom (atom.StrLit text.now)) stack.old) }
+/// What stands before the strings at the end, and those strings.
+fn strings_apart(tokens: &[Token]) -> (&[Token], &[Token])
+    ensures joined { tokens.now ≡ result.0.now ++ result.1.now }
+    ensures strings { AreStrings result.1.now }
 {
-    let text = match stack.take_string() {
-        Some(next) => joined(alloc, text, &next)?,
-        None => text.to_owned(alloc)?,
-    };
+    let mut outer = tokens;
+    while let Some(before) = unquoted(outer) {
+        outer = before;
+    }
+    tokens.split_at(outer.len())
+}
+
+/// The text of a string.
+fn text_of(token: &Token) -> &str
+    ensures { chars result.now ≡ text_of token.now }
+{
+    match token {
+        Token::Str(text) => text.as_str(),
+        _ => "",
+    }
+}
+
+/// The texts of strings, one behind the other, and then a last one.
+fn glued(alloc: Global, strings: &[Token], last: &Text) -> Result<Text, Memory>
+    ensures { IfOk result (λ t. t ≡ glued strings.now last.now) }
+{
+    let mut text = Text::new(alloc);
+    for token in strings {
+        text.push_str(text_of(token))?;
+    }
+    text.push_str(last.as_str())?;
+    Ok(text)
+}
+
+fn push_string(stack: &mut Stack, text: Text) -> Result<(), Memory>
+    ensures { OnOk result (stack.new ≡ join (symbol.Atom (atom.StrLit text)) stack.old) }
+{
+    let mut text = text;
+    if let Some(next) = stack.take_string() {
+        text.push_str(next.as_str())?;
+    }
     Ok(stack.push(Symbol::Atom(Atom::StrLit(text)))?)
+}
+
+/// A string and all strings right before it, which are one: the tokens that are left. Each text is copied once.
+fn push_strings<'a>(
+    alloc: Global,
+    stack: &mut Stack,
+    last: &Text,
+    before: &'a [Token],
+) -> Result<&'a [Token], Memory>
+    ensures { IfOk result (λ rest. Pushed before.now (token.Str last.now) stack.old stack.new rest.now) }
+{
+    let (outer, strings) = strings_apart(before);
+    push_string(stack, glued(alloc, strings, last)?)?;
+    Ok(outer)
 }
 
 fn is_super(name: &Name) -> bool
@@ -250,7 +300,7 @@ fn push_token<'a>(
         }
         Token::Keyword(word) => push_keyword(stack, *word)?,
         Token::Int(n) => stack.push(Symbol::Atom(Atom::IntLit(*n)))?,
-        Token::Str(text) => push_string(alloc, stack, text)?,
+        Token::Str(text) => return push_strings(alloc, stack, text, before),
         Token::Mark(found) => stack.push(mark(*found))?,
     }
     Ok(before)

@@ -6,12 +6,15 @@ use Rattle.py_language.specs.declared.shape.Bracket.TheVariants.{Round, Square, 
 use Rattle.py_language.specs.declared.shape.Symbol.{Symbol}
 use Rattle.py_language.specs.declared.shape.Symbol.TheVariants as s
 use Rattle.py_language.specs.declared.shape.Shape.{Shape}
-use Rattle.py_language.specs.declared.shape.Shape.TheVariants.{Binary, Compare, And, Or}
+use Rattle.py_language.specs.declared.shape.Shape.TheVariants.{Binary, Compare}
 use Rattle.py_language.specs.Trees.{◌>>=◌, shape, binary, operator, comparator, sum, product, comparison, conjunction, disjunction}
 use Rattle.py_language.specs.TreesPlaces.{Level, Disjunction, Conjunction, Negation, Comparison, Sum, Product, Signed, Postfix, number, Place, start, next, rank, at, below}
 use Rattle.py_syntax.specs.declared.operator.CmpOp.{CmpOp}
 use Rattle.py_shape.specs.declared.fault.ExprFault.{ExprFault}
 use Rattle.py_shape.specs.declared.fault.ExprFault.TheVariants.{Refused, Memory}
+use Rattle.py_shape.specs.declared.junction.Junction.{Junction}
+use Rattle.py_shape.specs.declared.junction.Junction.TheVariants as junction
+use Rattle.py_shape.specs.Junctions.{level, part_level, joined}
 use Rattle.py_shape.specs.Cut.{Stops, done, back}
 use Rattle.py_shape.specs.Reads.{before, Found, Missing, Reads, NoMark}
 use Rattle.py_shape.proofs.CutLemmas.{front-back, back_stops}
@@ -147,19 +150,13 @@ bind_itself : (o : Option Shape) → o ≡ (o >>= λ x. Some x)
 bind_itself None = refl
 bind_itself (Some x) = refl
 
-abbrev pub conjunct : ℕ → Symbol × List Symbol → Option Shape
-conjunct d p = shape d Negation p.1
+abbrev pub truth : Junction → ℕ → Symbol × List Symbol → Option Shape
+truth j d p = shape d (part_level j) p.1
 
-pub at_conjunction : IsChain Conjunction Negation conjunct itself (λ x others. And (x ∷ others))
-unfolding conjunction
-at_conjunction = record { is_next = refl; restart = restarts Conjunction (omega arith) (omega arith); cut = λ d xs. refl; piece_is = λ d y ys. bind_itself (shape d Negation ys) }
-
-abbrev pub disjunct : ℕ → Symbol × List Symbol → Option Shape
-disjunct d p = shape d Conjunction p.1
-
-pub at_disjunction : IsChain Disjunction Conjunction disjunct itself (λ x others. Or (x ∷ others))
-unfolding disjunction
-at_disjunction = record { is_next = refl; restart = restarts Disjunction (omega arith) (omega arith); cut = λ d xs. refl; piece_is = λ d y ys. bind_itself (shape d Conjunction ys) }
+pub at_junction : (j : Junction) → IsChain (level j) (part_level j) (truth j) itself (λ x others. joined j (x ∷ others))
+unfolding conjunction disjunction
+at_junction junction.And = record { is_next = refl; restart = restarts Conjunction (omega arith) (omega arith); cut = λ d xs. refl; piece_is = λ d y ys. bind_itself (shape d Negation ys) }
+at_junction junction.Or = record { is_next = refl; restart = restarts Disjunction (omega arith) (omega arith); cut = λ d xs. refl; piece_is = λ d y ys. bind_itself (shape d Conjunction ys) }
 
 -- the same at each step of the loop over a chain
 module _ {B : Type 0} (l m : Level) (piece : ℕ → Symbol × List Symbol → Option B) (made : Symbol → Shape → B) (node : Shape → List B → Shape) (is : IsChain l m piece made node) (limit : ℕ) (xs : List Symbol) where

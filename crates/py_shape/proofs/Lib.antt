@@ -20,3 +20,4 @@ pub mod ListSteps
 pub mod HoldSteps
 pub mod OperandSteps
 pub mod WholeSteps
+pub mod Junctions

@@ -3,3 +3,4 @@ pub mod Reads
 pub mod Groups
 pub mod Lists
 pub mod Nests
+pub mod Junctions

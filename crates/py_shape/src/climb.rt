@@ -1,12 +1,14 @@
 // The levels of the grammar, from the tightest operator to the conditional.
 ghost use Rattle.std.specs.Prelude.{◌≡◌, ◌<◌, ◌-◌};
-ghost use Rattle.py_language.specs.TreesPlaces.{Conditional, Disjunction, Conjunction, Negation, Comparison, Sum, Product, Signed};
+ghost use Rattle.py_language.specs.TreesPlaces.{Conditional, Negation, Comparison, Sum, Product, Signed};
+ghost use Rattle.py_shape.specs.Junctions.{level, part_level};
 ghost use Rattle.py_shape.specs.Nests.{Nests};
 ghost use Rattle.py_shape.specs.Reads.{Reads};
 
 use crate::ExprFault;
 use crate::cursor::{mark, not, otherwise, sign, test};
-use crate::nodes::{binary, choice, comparator, comparison, every, negated, only, some, unary};
+use crate::junction::{Junction, joined, junction_mark};
+use crate::nodes::{binary, choice, comparator, comparison, negated, only, unary};
 use py_language::{Shape, Symbol};
 use sqlite_items::{Boxed, Items};
 use std::alloc::Global;
@@ -142,46 +144,41 @@ impl<
         Ok((negated(self.alloc, operand)?, height + 1, rest))
     }
 
-    fn conjunction<'a>(
+    /// A part of what `and` or `or` joins.
+    #[cycle(truths)]
+    fn truth<'a>(
         &self,
+        junction: Junction,
         symbols: &'a [Symbol],
         limit: usize,
     ) -> Result<(Boxed<Shape>, usize, &'a [Symbol]), ExprFault>
         requires { Nests limit (F.pre self.now.inner) (F.post self.now.inner) }
-        ensures { Reads Conjunction limit symbols.now result }
+        ensures { Reads (part_level junction) limit symbols.now result }
     {
-        let (first, mut most, mut rest) = self.negation(symbols, limit)?;
-        let Some(_) = mark(4, rest) else {
-            return Ok((first, most, rest));
-        };
-        let mut all = only(self.alloc, first)?;
-        while let Some((_mark, after)) = mark(4, rest) {
-            let (part, height, next) = self.negation(after, limit)?;
-            all.push(part.into_inner())?;
-            most = most.max(height);
-            rest = next;
+        match junction {
+            Junction::And => self.negation(symbols, limit),
+            Junction::Or => self.truths(Junction::And, symbols, limit),
         }
-        if most >= limit {
-            return Err(ExprFault::Refused);
-        }
-        Ok((every(self.alloc, all)?, most + 1, rest))
     }
 
-    fn disjunction<'a>(
+    /// Parts with `and` or `or` between them, or one part.
+    #[cycle(truths)]
+    fn truths<'a>(
         &self,
+        junction: Junction,
         symbols: &'a [Symbol],
         limit: usize,
     ) -> Result<(Boxed<Shape>, usize, &'a [Symbol]), ExprFault>
         requires { Nests limit (F.pre self.now.inner) (F.post self.now.inner) }
-        ensures { Reads Disjunction limit symbols.now result }
+        ensures { Reads (level junction) limit symbols.now result }
     {
-        let (first, mut most, mut rest) = self.conjunction(symbols, limit)?;
-        let Some(_) = mark(3, rest) else {
+        let (first, mut most, mut rest) = self.truth(junction, symbols, limit)?;
+        let Some(_) = junction_mark(junction, rest) else {
             return Ok((first, most, rest));
         };
         let mut all = only(self.alloc, first)?;
-        while let Some((_mark, after)) = mark(3, rest) {
-            let (part, height, next) = self.conjunction(after, limit)?;
+        while let Some((_mark, after)) = junction_mark(junction, rest) {
+            let (part, height, next) = self.truth(junction, after, limit)?;
             all.push(part.into_inner())?;
             most = most.max(height);
             rest = next;
@@ -189,7 +186,7 @@ impl<
         if most >= limit {
             return Err(ExprFault::Refused);
         }
-        Ok((some(self.alloc, all)?, most + 1, rest))
+        Ok((joined(self.alloc, junction, all)?, most + 1, rest))
     }
 
     pub fn conditional<'a>(
@@ -201,9 +198,9 @@ impl<
         requires some { 0 < limit }
         ensures { Reads Conditional limit symbols.now result }
     {
-        let (value, height, rest) = self.disjunction(symbols, limit)?;
+        let (value, height, rest) = self.truths(Junction::Or, symbols, limit)?;
         if let Some(after) = test(rest) {
-            let (test, high, behind) = self.disjunction(after, limit)?;
+            let (test, high, behind) = self.truths(Junction::Or, after, limit)?;
             let Some(last) = otherwise(behind) else {
                 return Err(ExprFault::Refused);
             };

@@ -2,8 +2,8 @@
 //!
 //! `expression` and `expressions` give exactly the shape that `py_language` defines by cutting the symbols at their marks,
 //! and refuse exactly where that has none; want of memory is the only other answer. There is one function for each level of
-//! the grammar, a long chain of one level is a loop, and calls go deeper only behind brackets, signs, `not` and `else`, so no
-//! deeper than an expression may be. This layer knows nothing of text, of lines or of statements.
+//! the grammar, which `and` and `or` share; a long chain of one level is a loop, and calls go deeper only behind brackets, signs,
+//! `not` and `else`, so no deeper than an expression may be. This layer knows nothing of text, of lines or of statements.
 //!
 //! It stands on `py_language`, `py_syntax` and `pyn_base`.
 #![tactic(auto)]
@@ -11,6 +11,7 @@
 mod climb;
 mod cursor;
 mod fault;
+mod junction;
 mod lists;
 mod nodes;
 mod operand;

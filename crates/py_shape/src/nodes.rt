@@ -101,18 +101,6 @@ pub fn comparison(
     node(alloc, Shape::Compare(first, others))
 }
 
-pub fn every(alloc: Global, all: Items<Shape>) -> Result<Boxed<Shape>, AllocError>
-    ensures { IfOk result (λ x. x ≡ Shape.And all) }
-{
-    node(alloc, Shape::And(all))
-}
-
-pub fn some(alloc: Global, all: Items<Shape>) -> Result<Boxed<Shape>, AllocError>
-    ensures { IfOk result (λ x. x ≡ Shape.Or all) }
-{
-    node(alloc, Shape::Or(all))
-}
-
 pub fn tuple(alloc: Global, all: Items<Shape>) -> Result<Boxed<Shape>, AllocError>
     ensures { IfOk result (λ x. x ≡ Shape.TupleLit all) }
 {

@@ -1,3 +1,12 @@
 pub mod Folds
 pub mod Seconds
 pub mod Soundness
+pub mod Keeping
+pub mod Outcomes
+pub mod SoundKinds
+pub mod SoundWalks
+pub mod SoundSums
+pub mod SoundWrites
+pub mod SoundOperators
+pub mod SoundMethods
+pub mod SoundBuiltins

@@ -93,6 +93,20 @@ abbrev pub pop_item : Change Object Value
 pop_item (object.List items) = costs 1 (remove_at items (index_place (negsuc 0) (length items)))
 pop_item other = raises IndexError
 
+-- the item of an index, at no cost of its own
+abbrev pub take_item : ℤ → Change Object Value
+take_item at (object.List items) = remove_at items (index_place at (length items))
+take_item at other = raises IndexError
+
+abbrev pub inserted : ℤ → Value → Object → Object
+inserted at new (object.List items) = object.List (insert items (insert_place at (length items)) new)
+inserted at new other = other
+
+-- a list with more items at its end
+abbrev pub grown : List Value → Object → Object
+grown more (object.List items) = object.List (items ++ more)
+grown more other = other
+
 abbrev pub reverse_items : Change Object (Unit {0})
 reverse_items (object.List items) = costs (length items) (done (tt, object.List (reverse items)))
 reverse_items other = done (tt, other)
@@ -112,6 +126,9 @@ list_remove list at = on_object list (remove_item at)
 
 abbrev pub list_pop : ObjId → Change World Value
 list_pop list = on_object list pop_item
+
+abbrev pub list_take : ObjId → ℤ → Change World Value
+list_take list at = on_object list (take_item at)
 
 abbrev pub list_reverse : ObjId → Change World (Unit {0})
 list_reverse list = on_object list reverse_items

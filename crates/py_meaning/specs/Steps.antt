@@ -40,6 +40,14 @@ run >>= next = λ left. go_on (run left).0 (run left).1 next
 abbrev pub Change : Type 0 → Type 0 → Type 0
 Change S A = S → Costing (A × S)
 
+-- a change that leaves what there is as it was
+abbrev pub aside : {S A : Type 0} → Costing A → Change S A
+aside run s = run >>= (λ x. done (x, s))
+
+-- a change whose answer is read otherwise
+abbrev pub answering : {S A B : Type 0} → B → Change S A → Change S B
+answering answer change s = change s >>= (λ made. done (answer, made.1))
+
 abbrev pub settle : {S A : Type 0} → S → Op (A × S) → ℕ → Op A × S × ℕ
 settle s (op.Done made) left = (op.Done made.0, made.1, left)
 settle s (op.Raises class) left = (op.Raises class, s, left)

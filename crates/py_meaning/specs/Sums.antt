@@ -8,7 +8,7 @@ use Rattle.py_meaning.specs.declared.object.Object.{Object}
 use Rattle.py_meaning.specs.declared.object.Object.TheVariants as object
 use Rattle.py_meaning.specs.declared.value.Value.{Value, Value-F, out-Value}
 use Rattle.py_meaning.specs.declared.value.Value.TheVariants as value
-use Rattle.py_meaning.specs.Steps.{Costing, Change, done, raises, leaves, costs, ◌>>=◌}
+use Rattle.py_meaning.specs.Steps.{Costing, Change, aside, done, raises, leaves, costs}
 use Rattle.py_meaning.specs.Values.{number_of, is_view}
 use Rattle.py_meaning.specs.Worlds.{World, object_at, elements}
 use Rattle.py_meaning.specs.Operations.{made}
@@ -40,10 +40,6 @@ or_range (Some n) = done (value.Int n)
 abbrev pub add_numbers : Option ℤ → Option ℤ → Costing Value
 add_numbers (Some a) (Some b) = or_range (in_range (a +ℤ b))
 add_numbers _ _ = raises TypeError
-
--- what leaves the world as it is
-abbrev pub aside : {A : Type 0} → Costing A → Change World A
-aside run world = run >>= (λ x. done (x, world))
 
 abbrev pub add_values : Value-F Value → Value-F Value → Change World Value
 add_values (Value-F.Str s) (Value-F.Str t) = aside (add_texts s t)

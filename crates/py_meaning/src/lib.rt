@@ -8,18 +8,30 @@
 //! It stands on `pyn_base` and `py_syntax`.
 #![tactic(auto)]
 
+mod builtin;
+mod example_builtins;
+mod example_methods;
+mod example_operators;
+mod example_texts;
 mod examples;
 mod object;
 mod op;
 mod order;
 mod sequence;
 mod shared;
+mod soundness_laws;
 mod value;
 
+pub use builtin::{Builtin, DictMethod, ListMethod, TextMethod};
+pub use example_builtins::builtin_examples;
+pub use example_methods::method_examples;
+pub use example_operators::operator_examples;
+pub use example_texts::text_examples;
 pub use examples::world_examples;
 pub use object::{ObjKind, Object};
 pub use op::Op;
 pub use order::Order;
 pub use sequence::Sequence;
 pub use shared::Shared;
+pub use soundness_laws::laws_of_soundness;
 pub use value::{PyStr, PyTuple, Value, View};

@@ -4,4 +4,4 @@ pub mod Fronts
 pub mod Depths
 pub mod Sums
 pub mod Counting
-pub mod Keeping
+pub mod Shallow

@@ -3,10 +3,10 @@ use Rattle.std.proofs.Common.{◌≡◌, ℕ, ℤ, Option, false, refl, sym, ◌
 use Rattle.py_meaning.specs.declared.op.Op.{Op}
 use Rattle.py_meaning.specs.declared.op.Op.TheVariants as op
 use Rattle.py_meaning.specs.declared.value.Value.{Value, Value-F, out-Value}
-use Rattle.py_meaning.specs.Steps.{Costing, changes, settle, go_on, done, UnlessMemory}
+use Rattle.py_meaning.specs.Steps.{Costing, aside, changes, settle, go_on, done, UnlessMemory}
 use Rattle.py_meaning.specs.Values.{number_of, is_view}
 use Rattle.py_meaning.specs.Worlds.{World}
-use Rattle.py_meaning.specs.Sums.{add, add_values, add_numbers, aside}
+use Rattle.py_meaning.specs.Sums.{add, add_values, add_numbers}
 
 always : {A : Type 0} {P : Type 0} (answer : Op A) → P → UnlessMemory answer P
 always (op.Done a) p = p

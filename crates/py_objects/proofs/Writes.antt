@@ -6,6 +6,7 @@ use Rattle.py_meaning.specs.declared.object.Object.{Object}
 use Rattle.py_meaning.specs.declared.object.Object.TheVariants as object
 use Rattle.py_meaning.specs.declared.op.Op.{Op}
 use Rattle.py_meaning.specs.declared.op.Op.TheVariants as op
+use Rattle.py_meaning.proofs.Keeping.{unless_memory}
 use Rattle.py_meaning.specs.Steps.{Change, changes, settle, go_on, done, UnlessMemory, UnlessDone}
 use Rattle.py_meaning.specs.Worlds.{World, object_at, or_nothing, with_object}
 use Rattle.py_meaning.specs.Operations.{on_object}
@@ -41,13 +42,6 @@ settled world id op.Memory left = ap (λ w. (op.Memory, w, left)) (sym (keeps wo
 
 pub changes_on_object : {A : Type 0} (id : ObjId) (change : Change Object A) (world : World) (left : ℕ) → changes (on_object id change) world left ≡ placed world id (changes change (object_at world id) left)
 changes_on_object id change world left = settled world id (change (object_at world id) left).0 (change (object_at world id) left).1
-
-pub unless_memory : {A : Type 0} {P Q : Type 0} (answer : Op A) → (P → Q) → UnlessMemory answer P → UnlessMemory answer Q
-unless_memory (op.Done a) f p = f p
-unless_memory (op.Raises class) f p = f p
-unless_memory (op.Leaves construct) f p = f p
-unless_memory op.OutOfSteps f p = f p
-unless_memory op.Memory f p = tt
 
 pub unless_done : {A : Type 0} {P Q : Type 0} (answer : Op A) → (P → Q) → UnlessDone answer P → UnlessDone answer Q
 unless_done (op.Done a) f p = tt

@@ -68,7 +68,7 @@ impl Objects {
     }
 
     /// Whether a reference names a list, or nothing.
-    fn is_list(&self, id: ObjId) -> bool
+    pub fn is_list(&self, id: ObjId) -> bool
         ensures { result ≡ is_list (object_at self.now id) }
     {
         match self.object(id) {

@@ -6,12 +6,12 @@ ghost use Rattle.py_meaning.specs.Walk.{shallow};
 use crate::Value;
 
 /// A tuple is no deeper than this.
-const TUPLE_LIMIT: u32 = 50;
+pub(crate) const TUPLE_LIMIT: u32 = 50;
 
 /// Whether a value is no deeper a tuple than a limit.
 #[cycle(depth)]
 #[tactic(auto, using(py_meaning::proofs::Folds::depths, py_meaning::proofs::Folds::views))]
-fn is_within(value: &Value, limit: u32) -> bool
+pub(crate) fn is_within(value: &Value, limit: u32) -> bool
     ensures { result ≡ nat_le (depth value.now) limit }
 {
     match value {
@@ -24,7 +24,7 @@ fn is_within(value: &Value, limit: u32) -> bool
 }
 
 #[cycle(depth)]
-fn are_within(parts: &[Value], limit: u32) -> bool
+pub(crate) fn are_within(parts: &[Value], limit: u32) -> bool
     ensures { result ≡ nat_le (deepest (map depth parts.now)) limit }
 {
     for part in parts {

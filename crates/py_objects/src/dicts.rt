@@ -75,8 +75,8 @@ impl Objects {
         }
     }
 
-    /// Puts a value under what is a key.
-    fn put_pair(&mut self, dict: ObjId, key: Value, value: Value) -> Result<(), Memory>
+    /// Puts a value under what is a key, at no cost: the caller has paid for it.
+    pub fn put_pair(&mut self, dict: ObjId, key: Value, value: Value) -> Result<(), Memory>
         ensures ok { OnOk result (self.new ≡ with_object self.old dict (put_pair key value (object_at self.old dict))) }
         ensures err { OnErr result (self.new ≡ self.old) }
         ensures sound { IsTrue (sound_world self.old) → IsTrue (sound (dicts self.old) key) → IsTrue (sound (dicts self.old) value) → IsTrue (sound_world self.new) }

@@ -17,9 +17,13 @@ mod fork;
 mod instances;
 mod keys;
 mod lists;
+mod made_of;
 mod objects;
 mod order;
+mod paid;
+mod payment;
 mod places;
+mod places_of;
 mod ranges;
 mod same;
 #[cfg(test)]
@@ -27,5 +31,9 @@ mod tests;
 mod truth;
 mod walk;
 
+pub use lists::shared_all;
 pub use objects::Objects;
+pub use payment::{is_within_machine, pay};
+pub use places::{index_place, insert_place};
 pub use py_meaning::{ObjKind, Object, Op, Order, PyStr, PyTuple, Sequence, Shared, Value, View};
+pub use same::{is_same_class, is_same_single, is_view, number};

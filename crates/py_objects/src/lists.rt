@@ -11,7 +11,7 @@ use pyn_base::{BuiltClass, Fuel, Memory, ObjId, PyInt};
 use std::alloc::Global;
 
 /// The same values for one more owner.
-pub(crate) fn shared_all(alloc: Global, items: &[Value]) -> Result<Vec<Value>, Memory>
+pub fn shared_all(alloc: Global, items: &[Value]) -> Result<Vec<Value>, Memory>
     ensures { IfOk result (λ shared. shared.items ≡ items.now) }
 {
     let mut shared = Vec::new(alloc);

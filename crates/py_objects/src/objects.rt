@@ -96,8 +96,13 @@ impl Objects {
         self.objects.get(id.0 as usize)
     }
 
+    /// What allocates for the table.
+    pub fn alloc(&self) -> Global {
+        self.alloc
+    }
+
     /// A list's items, and nothing of other objects.
-    pub(crate) fn elements(&self, list: ObjId) -> &[Value]
+    pub fn elements(&self, list: ObjId) -> &[Value]
         ensures { result.now ≡ elements self.now list }
     {
         match self.object(list) {

@@ -6,7 +6,7 @@ use py_meaning::Value;
 use pyn_base::{Name, PyInt};
 
 /// The place that an index means among so many, below 0 from the end.
-pub(crate) fn index_place(at: PyInt, count: usize) -> Option<usize>
+pub fn index_place(at: PyInt, count: usize) -> Option<usize>
     ensures { result ≡ index_place at count }
 {
     let at = at.get();
@@ -24,7 +24,7 @@ pub(crate) fn index_place(at: PyInt, count: usize) -> Option<usize>
 }
 
 /// The place at which an insertion at an index puts its item.
-pub(crate) fn insert_place(at: PyInt, count: usize) -> usize
+pub fn insert_place(at: PyInt, count: usize) -> usize
     ensures { result ≡ insert_place at count }
 {
     let at = at.get();

@@ -12,7 +12,8 @@ fn place_of_class(class: BuiltClass) -> u32
     class as u32
 }
 
-pub(crate) fn is_same_class(a: ClassId, b: ClassId) -> bool
+/// Whether two classes are one.
+pub fn is_same_class(a: ClassId, b: ClassId) -> bool
     ensures { result ≡ same_class a b }
 {
     match (a, b) {
@@ -31,7 +32,7 @@ pub(crate) fn number_of_truth(truth: bool) -> Option<PyInt>
 
 /// The number of an integer or a truth value.
 #[tactic(auto, using(py_meaning::proofs::Folds::views))]
-pub(crate) fn number(value: &Value) -> Option<PyInt>
+pub fn number(value: &Value) -> Option<PyInt>
     ensures { result ≡ number_of (out-Value value.now) }
 {
     match value {
@@ -56,8 +57,9 @@ pub(crate) fn is_same_text(a: &[char], b: &[char]) -> bool
     a == b
 }
 
+/// Whether two values of which not both are tuples are the same: by number, by characters, or by what they name.
 #[tactic(auto, using(py_meaning::proofs::Folds::views))]
-pub(crate) fn is_same_single(a: &Value, b: &Value) -> bool
+pub fn is_same_single(a: &Value, b: &Value) -> bool
     ensures { result ≡ same_single (out-Value a.now) (out-Value b.now) }
 {
     match a {
@@ -86,8 +88,9 @@ pub(crate) fn is_same_single(a: &Value, b: &Value) -> bool
     }
 }
 
+/// Whether a value walks a range or a dict.
 #[tactic(auto, using(py_meaning::proofs::Folds::views))]
-pub(crate) fn is_view(value: &Value) -> bool
+pub fn is_view(value: &Value) -> bool
     ensures { result ≡ is_view (out-Value value.now) }
 {
     matches!(value, Value::View(_))

@@ -280,3 +280,23 @@ fn ranges_are_walked(rt: HostRuntime) -> Result<(), Fail> {
     }
     Ok(())
 }
+
+#[test]
+fn lists_and_tuples_are_made_of_what_is_walked(rt: HostRuntime) -> Result<(), Fail> {
+    let alloc = rt.alloc();
+    let mut objects = Objects::new(alloc)?;
+    let mut fuel = Fuel::new(100);
+    let list = done(objects.list_of(&Value::View(View::Range(0, 3, 1)), &mut fuel))?;
+    assert_eq!(rt; fuel.left(), 97);
+    match done(objects.tuple_of(&list, &mut fuel))? {
+        Value::Tuple(parts) => assert!(rt; is_int(parts.as_slice().get(2), 2)),
+        _ => assert!(rt; false),
+    }
+    assert!(rt; raises(objects.list_of(&int(1), &mut fuel), BuiltClass::TypeError));
+    let deepest = nested_tuple(alloc, 50)?;
+    assert_eq!(rt; done(objects.walk(&deepest, &mut fuel))?.len(), 1);
+    done(objects.tuple_of(&deepest, &mut fuel))?;
+    let around = Value::Ref(done(objects.make_list(&[deepest], &mut fuel))?);
+    assert!(rt; leaves(objects.tuple_of(&around, &mut fuel), Construct::TupleDepth));
+    Ok(())
+}

@@ -19,7 +19,7 @@ impl Objects {
     pub fn walk(&self, value: &Value, fuel: &mut Fuel) -> Op<Sequence<Value>>
         ensures { UnlessMemory result (walk self.now value.now fuel.old ≡ (result, fuel.new)) }
     {
-        let Some(count) = self.walk_length(value) else {
+        let Some(count) = self.length(value) else {
             return Op::Raises(BuiltClass::TypeError);
         };
         if !fuel.take(count) {
@@ -31,9 +31,9 @@ impl Objects {
         }
     }
 
-    /// How many elements are walked, where a value is walked at all.
+    /// How many elements are walked, where a value is walked at all. What is walked is what has a length.
     #[tactic(auto, using(py_meaning::proofs::Folds::views))]
-    fn walk_length(&self, value: &Value) -> Option<u64>
+    pub fn length(&self, value: &Value) -> Option<u64>
         ensures { result ≡ option_map length (walked self.now value.now) }
     {
         match value {
@@ -64,7 +64,7 @@ impl Objects {
 
     /// The elements, or none where a value isn't walked.
     #[tactic(auto, using(py_meaning::proofs::Folds::views))]
-    fn walked(&self, value: &Value) -> Result<Vec<Value>, Memory>
+    pub(crate) fn walked(&self, value: &Value) -> Result<Vec<Value>, Memory>
         ensures { IfOk result (λ items. items.items ≡ or_empty (walked self.now value.now)) }
     {
         match value {
@@ -95,7 +95,7 @@ impl Objects {
 
 /// Whether the elements are tuples that the walk itself makes.
 #[tactic(auto, using(py_meaning::proofs::Folds::views))]
-fn gives_new_tuples(value: &Value) -> bool
+pub(crate) fn gives_new_tuples(value: &Value) -> bool
     ensures { result ≡ gives_new_tuples (out-Value value.now) }
 {
     match value {

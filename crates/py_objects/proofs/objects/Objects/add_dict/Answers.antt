@@ -1,7 +1,7 @@
 use Rattle.std.proofs.Common.{[], ◌∙◌, ap, refl}
 use Rattle.py_meaning.specs.Worlds.{dicts, sound_object}
 use Rattle.py_meaning.specs.declared.object.Object.TheVariants.{Dict}
-use Rattle.py_objects.proofs.Keeping.{put_all_sound}
+use Rattle.py_meaning.proofs.Keeping.{put_all_sound}
 use Rattle.py_objects.proofs.objects.Objects.add_dict.Goals as goal
 
 pub returns-clause-sound : goal.returns-clause-sound

@@ -1,5 +1,5 @@
 use Rattle.std.proofs.Common.{◌∙◌}
-use Rattle.py_objects.proofs.Keeping.{joined_sound}
+use Rattle.py_meaning.proofs.Keeping.{joined_sound}
 use Rattle.py_objects.proofs.objects.Objects.add_refs.Goals as goal
 
 pub returns-in-Ok-make-clause-sound : goal.returns-in-Ok-make-clause-sound

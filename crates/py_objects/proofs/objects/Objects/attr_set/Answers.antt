@@ -1,6 +1,6 @@
 use Rattle.py_meaning.specs.Operations.{set_attribute}
 use Rattle.py_meaning.specs.Worlds.{dicts, object_at}
-use Rattle.py_objects.proofs.Keeping.{kept_written, set_attribute_stays, object_sound}
+use Rattle.py_meaning.proofs.Keeping.{kept_written, set_attribute_stays, object_sound}
 use Rattle.py_objects.proofs.Writes.{rewritten, not_rewritten}
 use Rattle.py_objects.proofs.objects.Objects.attr_set.Goals as goal
 

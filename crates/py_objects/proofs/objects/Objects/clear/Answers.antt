@@ -1,6 +1,6 @@
 use Rattle.py_meaning.specs.Operations.{cleared}
 use Rattle.py_meaning.specs.Worlds.{dicts, object_at}
-use Rattle.py_objects.proofs.Keeping.{kept_written, cleared_stays, object_sound}
+use Rattle.py_meaning.proofs.Keeping.{kept_written, cleared_stays, object_sound}
 use Rattle.py_objects.proofs.Writes.{rewritten, not_rewritten}
 use Rattle.py_objects.proofs.objects.Objects.clear.Goals as goal
 

@@ -1,6 +1,6 @@
 use Rattle.py_meaning.specs.Operations.{delete_pair}
 use Rattle.py_meaning.specs.Worlds.{dicts, object_at}
-use Rattle.py_objects.proofs.Keeping.{kept_free, keeps_on_object, delete_pair_keeps, object_sound}
+use Rattle.py_meaning.proofs.Keeping.{kept_free, keeps_on_object, delete_pair_keeps, object_sound}
 use Rattle.py_objects.proofs.Writes.{written_free, unwritten}
 use Rattle.py_objects.proofs.objects.Objects.delete_pair.Goals as goal
 

@@ -1,5 +1,5 @@
 use Rattle.std.proofs.Common.{◌∙◌, length}
-use Rattle.py_objects.proofs.Keeping.{copied_sound}
+use Rattle.py_meaning.proofs.Keeping.{copied_sound}
 use Rattle.py_objects.proofs.objects.Objects.dict_copy.Goals as goal
 
 pub returns-in-Ok-make-clause-sound : goal.returns-in-Ok-make-clause-sound

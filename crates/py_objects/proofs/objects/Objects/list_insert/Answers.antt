@@ -1,6 +1,6 @@
 use Rattle.py_meaning.specs.Operations.{insert_item, on_object}
 use Rattle.py_meaning.specs.Worlds.{dicts, object_at}
-use Rattle.py_objects.proofs.Keeping.{kept, keeps_on_object, insert_item_keeps, object_sound}
+use Rattle.py_meaning.proofs.Keeping.{kept, keeps_on_object, insert_item_keeps, object_sound}
 use Rattle.py_objects.proofs.Writes.{written, unwritten}
 use Rattle.py_objects.proofs.objects.Objects.list_insert.Goals as goal
 

@@ -1,6 +1,6 @@
 use Rattle.py_meaning.specs.Operations.{set_item}
 use Rattle.py_meaning.specs.Worlds.{dicts, object_at}
-use Rattle.py_objects.proofs.Keeping.{kept_free, keeps_on_object, set_item_keeps, object_sound}
+use Rattle.py_meaning.proofs.Keeping.{kept_free, keeps_on_object, set_item_keeps, object_sound}
 use Rattle.py_objects.proofs.Writes.{written_free, unwritten}
 use Rattle.py_objects.proofs.objects.Objects.list_set.Goals as goal
 

@@ -1,6 +1,6 @@
 use Rattle.std.proofs.Common.{◌∷◌, ◌++◌, [], ◌∙◌, ap}
 use Rattle.py_meaning.specs.Worlds.{sound_world}
-use Rattle.py_objects.proofs.Keeping.{made_sound}
+use Rattle.py_meaning.proofs.Keeping.{made_sound}
 use Rattle.py_objects.proofs.objects.Objects.make.Goals as goal
 
 pub returns-clause-sound : goal.returns-clause-sound

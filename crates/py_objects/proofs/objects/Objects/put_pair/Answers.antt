@@ -1,6 +1,6 @@
 use Rattle.py_meaning.specs.Operations.{put_pair}
 use Rattle.py_meaning.specs.Worlds.{dicts, object_at}
-use Rattle.py_objects.proofs.Keeping.{kept_written, put_pair_stays, object_sound}
+use Rattle.py_meaning.proofs.Keeping.{kept_written, put_pair_stays, object_sound}
 use Rattle.py_objects.proofs.Writes.{rewritten, not_rewritten}
 use Rattle.py_objects.proofs.objects.Objects.put_pair.Goals as goal
 

@@ -1,0 +1,5 @@
+pub mod FirstPlaces
+pub mod Cutting
+pub mod Fronts
+pub mod Joining
+pub mod Scans

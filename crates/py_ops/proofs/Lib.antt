@@ -1,0 +1,3 @@
+pub mod Asides
+pub mod Repeats
+pub mod Ranges

@@ -1,0 +1,3 @@
+pub mod Behind
+pub mod Arguments
+pub mod Integers

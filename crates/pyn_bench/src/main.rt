@@ -14,8 +14,6 @@ ghost use Rattle.pyn_base.specs.Files.{content};
 ghost use Rattle.pyn_bench.specs.Reports.{said_of};
 
 mod reports;
-#[cfg(test)]
-mod tests;
 
 use py_lexer::tokens;
 use pyn_base::{Desk, DeskFail, RealDesk};

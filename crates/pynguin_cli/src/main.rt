@@ -1,31 +1,13 @@
-//! The program: a regression suite for a Python module, with a report that can be trusted.
+//! The program: the words after its name and the real files, for `pynguin_job::pynguin`, which does all the rest.
 //!
-//! `pynguin` is the one call that does all that the program does, on a desk that it is given: it reads the words and the
-//! module, and writes a pytest file and its report. Its contract is the headline. With status 0, where the desk tells its
-//! files, the written suite, read again and run by the plain meaning of the language, passes every test within
-//! its steps; the report is exactly that run's; and no test can go without losing a goal. The other clauses say
-//! why each status comes, and what a run leaves on the desk. `main` makes the words and the real desk, calls it
-//! and ends with its status.
-//!
-//! It stands on `py_parser`, `pytest_file`, `suite_check` and `suite_report`, and on the definitions of `py_language`,
-//! `py_meaning` and `pyn_model`.
+//! Only this crate sees the real desk.
 #![tactic(auto)]
 
-mod outputs;
-mod run;
-mod status;
-#[cfg(test)]
-mod tests;
-mod top;
-mod words;
-
 use pyn_base::{RealDesk, Text};
-pub use status::Status;
+use pynguin_job::{Status, pynguin};
 use std::process::ExitCode;
 use std::rt::Env;
 use std::{env, io};
-pub use top::pynguin;
-pub use words::{Job, WordsFault, read_words};
 
 // The words after the program's name.
 fn words_of<R: Env + AllocGlobal>(rt: &R) -> io::Result<Vec<Text>> {

@@ -1,0 +1,17 @@
+-- A module that is read has the first form.
+use Rattle.std.proofs.Common.{◌≡◌, refl, Bool, true, false, cond, List, ℕ, length, nat_le, Result, Ok, Err}
+use Rattle.pyn_base.specs.declared.construct.Construct.TheVariants.{TooLong}
+use Rattle.py_syntax.specs.declared.module.Module.{Module}
+use Rattle.py_syntax.specs.declared.refusal.Refusal.{Refusal}
+use Rattle.py_syntax.specs.declared.refusal.Refusal.TheVariants.{Refused}
+use Rattle.py_language.specs.FirstForm.{first_form}
+use Rattle.pyn_model.specs.FirstModules.{IsFirst}
+use Rattle.pyn_model.proofs.Accepted.{first_form-IsFirst}
+use Rattle.pynguin_job.specs.Outputs.{module_in, module_limit}
+
+within : (t : Bool) (text : List ℕ) (m : Module) → ◌≡◌ {A = Result Module Refusal} (cond t (first_form text) (Err (Refused 1 TooLong))) (Ok m) → IsFirst m
+within true text m e = first_form-IsFirst text m e
+within false text m e = absurd (cc)
+
+pub module_in-IsFirst : (text : List ℕ) (m : Module) → module_in text ≡ Ok m → IsFirst m
+module_in-IsFirst text m e = within (nat_le (length text) module_limit) text m e

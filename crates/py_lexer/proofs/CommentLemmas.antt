@@ -1,4 +1,4 @@
--- What may stand in a comment, and the encoding that it declares.
+-- What may be in a comment, and the encoding that it declares.
 use Rattle.std.proofs.Common.{◌≡◌, ◌∙◌, sym, ap, refl, ℕ, suc, ◌<◌, ◌≤◌, true, false, List, [], ◌∷◌, ◌++◌, length, drop, Option, Some, None, arith}
 use Rattle.std.specs.Prelude.{◌==◌, ◌≢◌}
 use Rattle.std.specs.List.{list_all}
@@ -13,7 +13,8 @@ use Rattle.py_language.specs.TokensFaults.{first_refused}
 use Rattle.py_language.specs.TokensEncoding.{encoding_here, or_later, declared_encoding}
 use Rattle.py_lexer.specs.Scan.{front_of}
 use Rattle.py_lexer.proofs.DecodeLemmas.{is_high, decoded_ascii, decoded_wide, decoded_bad, wide}
-use Rattle.py_lexer.proofs.ContentLemmas.{not_bad, and_both}
+use Rattle.py_lexer.proofs.ClassLemmas.{and_both}
+use Rattle.py_lexer.proofs.ContentLemmas.{not_bad}
 
 fine_high : (c : ℕ) → is_high c ≡ true → scalar c ≡ true → refused c ≡ None
 fine_high c h s =
@@ -38,17 +39,11 @@ refused_ascii rest more b x e lt r f same =
     let step : first_refused (b ∷ decoded more) ≡ first_refused (decoded more) = rw fine refl in
     sym step ∙ (ap first_refused (sym (ap (decoded_behind 0) e ∙ decoded_ascii b more lt)) ∙ same)
 
-pub refused_return : (rest more : List ℕ) (b : ℕ) (x : Option Construct) → rest ≡ b ∷ more → b ≡ 13 → first_refused (decoded rest) ≡ x → Some fault.Character ≡ x
+pub refused_here : (rest more : List ℕ) (b c : ℕ) (x : Option Construct) → rest ≡ b ∷ more → b ≡ c → c < 128 → refused c ≡ Some fault.Character → first_refused (decoded rest) ≡ x → Some fault.Character ≡ x
 unfolding decoded
-refused_return rest more b x e is same =
-    let lt : b < 128 = omega arith in
-    sym (ap (λ c. first_refused (c ∷ decoded_behind 0 more)) is) ∙ (ap first_refused (sym (ap (decoded_behind 0) e ∙ decoded_ascii b more lt)) ∙ same)
-
-pub refused_form : (rest more : List ℕ) (b : ℕ) (x : Option Construct) → rest ≡ b ∷ more → b ≡ 12 → first_refused (decoded rest) ≡ x → Some fault.Character ≡ x
-unfolding decoded
-refused_form rest more b x e is same =
-    let lt : b < 128 = omega arith in
-    sym (ap (λ c. first_refused (c ∷ decoded_behind 0 more)) is) ∙ (ap first_refused (sym (ap (decoded_behind 0) e ∙ decoded_ascii b more lt)) ∙ same)
+refused_here rest more b c x e is lt f same =
+    let start : rest ≡ c ∷ more = e ∙ ap (λ d. d ∷ more) is in
+    sym (ap first_refused (ap (decoded_behind 0) start ∙ decoded_ascii c more lt) ∙ rw f refl) ∙ same
 
 pub refused_wide : (rest more s : List ℕ) (b : ℕ) (x : Option Construct) → rest ≡ b ∷ more → 128 ≤ b → s ≡ front_of rest → is_utf8 (front_of rest) ≡ true → first_refused (decoded rest) ≡ x
     → first_refused (decoded (drop (length s) rest)) ≡ x

@@ -1,18 +1,18 @@
--- What stands inside a string, item by item, over bytes.
-use Rattle.std.proofs.Common.{◌≡◌, ◌∙◌, sym, ap, refl, ℕ, zero, suc, ◌+◌, ◌*◌, ◌<◌, ◌≤◌, Bool, true, false, cond, ◌&&◌, List, [], ◌∷◌, ◌++◌, length, drop, chars, Some, None, Ok, Err, append_assoc, append-nil, zero-add, arith}
+-- What is inside a string, item by item, over bytes.
+use Rattle.std.proofs.Common.{◌≡◌, ◌∙◌, sym, ap, refl, ℕ, zero, suc, ◌+◌, ◌*◌, ◌<◌, ◌≤◌, Bool, true, false, cond, List, [], ◌∷◌, ◌++◌, length, drop, Some, None, Ok, Err, append_assoc, append-nil, zero-add, arith}
 use Rattle.std.specs.Prelude.{◌==◌, nat_lt}
 use Rattle.std.specs.List.{list_all}
 use Rattle.std.specs.Char.{digit_value}
-use Rattle.std.specs.Str.{is_utf8, all_scalars}
+use Rattle.std.specs.Str.{all_scalars}
 use lib.Utf8.{scalar}
 use Rattle.std.proofs.lemmas.Bool.Decides.{nat_tests}
 use Rattle.pyn_base.specs.declared.construct.Construct.{Construct}
-use Rattle.py_language.specs.TokensCharacters.{begins, with_line_feeds, more_bytes, not_utf8, decoded_behind, decoded}
+use Rattle.py_language.specs.TokensCharacters.{begins, not_utf8, decoded_behind}
 use Rattle.py_language.specs.TokensNumbers.{is_digit_below}
 use Rattle.py_language.specs.TokensStrings.{refused, hex_value, Content, behind, lines_on, content_behind}
-use Rattle.py_lexer.specs.Scan.{vanishes, inside, raw_content, without_return}
-use Rattle.py_lexer.proofs.RunLemmas.{feeds_stay, feeds_vanish, begins_same, run_drop}
-use Rattle.py_lexer.proofs.DecodeLemmas.{is_high, decoded_ascii, decoded_wide, decoded_bad, decoded_begins, more_within, more_same}
+use Rattle.py_lexer.specs.Scan.{content_of}
+use Rattle.py_lexer.proofs.DecodeLemmas.{is_high, decoded_ascii, decoded_begins}
+use Rattle.py_lexer.proofs.ClassLemmas.{and_both}
 
 -- ---- contents
 
@@ -63,11 +63,6 @@ high_plain c cs h s =
     let not_refused : refused c ≡ None = rw (not_bad c s, a, b) refl in
     content_plain c cs (grind (arith, nat_tests)) (grind (arith, nat_tests)) not_refused
 
-pub and_both : (a b : Bool) → (a && b) ≡ true → (a ≡ true) × (b ≡ true)
-and_both true true e = (refl, refl)
-and_both true false e = absurd (cc)
-and_both false b e = absurd (cc)
-
 behind-nil : (r : Content) → behind [] r ≡ r
 behind-nil (Ok cs) = refl
 behind-nil (Err e) = refl
@@ -78,46 +73,6 @@ content_high (c ∷ cs) rest h s =
     let high = and_both (is_high c) (list_all is_high cs) h in
     let good = and_both (scalar c) (all_scalars cs) s in
     high_plain c (cs ++ rest) high.0 good.0 ∙ (ap (behind (c ∷ [])) (content_high cs rest high.1 good.1) ∙ behind-append (c ∷ []) cs (content_behind 0 rest))
-
--- ---- inside
-
-pub inside_ascii : (b : ℕ) (more : List ℕ) → b < 128 → vanishes b more ≡ false → inside (b ∷ more) ≡ b ∷ inside more
-unfolding inside decoded
-inside_ascii b more lt v = ap (decoded_behind 0) (feeds_stay b more v) ∙ decoded_ascii b (with_line_feeds more) lt
-
-pub inside_return : (b : ℕ) (more : List ℕ) → vanishes b more ≡ true → inside (b ∷ more) ≡ inside more
-unfolding inside decoded
-inside_return b more v = ap (decoded_behind 0) (feeds_vanish b more v)
-
-pub inside_without : (y : List ℕ) → inside (without_return y) ≡ inside y
-inside_without [] = refl
-inside_without (c ∷ cs) = without_by (vanishes c cs) refl
-  where
-    without_by : (v : Bool) → vanishes c cs ≡ v → inside (cond v cs (c ∷ cs)) ≡ inside (c ∷ cs)
-    without_by true e = sym (inside_return c cs e)
-    without_by false e = refl
-
-high_stays : (b : ℕ) (more : List ℕ) → is_high b ≡ true → vanishes b more ≡ false
-high_stays b more h = let t : (b == 13) ≡ false = grind (arith, nat_tests) in ap (λ v. v && begins (λ c. c == 10) more) t
-
-pub inside_wide : (b : ℕ) (more : List ℕ) → is_high b ≡ true → is_utf8 (b ∷ more_bytes b more) ≡ true → inside (b ∷ more) ≡ chars (b ∷ more_bytes b more) ++ inside (drop (length (more_bytes b more)) more)
-unfolding inside decoded
-inside_wide b more h t =
-    let same = more_same b more in
-    ap (decoded_behind 0) (feeds_stay b more (high_stays b more h))
-    ∙ (decoded_wide b (with_line_feeds more) (ap (λ xs. is_utf8 (b ∷ xs)) same ∙ t)
-    ∙ (ap (λ xs. chars (b ∷ xs) ++ decoded_behind 0 (drop (length xs) (with_line_feeds more))) same
-    ∙ ap (λ xs. chars (b ∷ more_bytes b more) ++ decoded_behind 0 xs) (run_drop is_high refl refl (length (more_bytes b more)) more (more_within b more))))
-
-pub inside_bad : (b : ℕ) (more : List ℕ) → is_high b ≡ true → is_utf8 (b ∷ more_bytes b more) ≡ false → inside (b ∷ more) ≡ not_utf8 ∷ inside more
-unfolding inside decoded
-inside_bad b more h t =
-    ap (decoded_behind 0) (feeds_stay b more (high_stays b more h)) ∙ decoded_bad b (with_line_feeds more) (ap (λ xs. is_utf8 (b ∷ xs)) (more_same b more) ∙ t)
-
-module _ (p : ℕ → Bool) (not_return : p 13 ≡ false) (not_feed : p 10 ≡ false) (ascii : (c : ℕ) → is_high c ≡ true → p c ≡ false) where
-  inside_begins : (bs : List ℕ) → begins p (inside bs) ≡ begins p bs
-  unfolding inside decoded
-  inside_begins bs = decoded_begins p ascii (with_line_feeds bs) ∙ begins_same p not_return not_feed bs
 
 -- ---- hexadecimal digits
 
@@ -138,38 +93,30 @@ digit_low c t = low_by (is_high c) refl
     low_by true h = let wrong = high_digit c h in absurd (cc)
     low_by false h = grind (arith, nat_tests)
 
-digit_stays : (c : ℕ) (cs : List ℕ) → is_digit_below 16 c ≡ true → vanishes c cs ≡ false
-digit_stays c cs t = stays_by (c == 13) refl
-  where
-    stays_by : (v : Bool) → (c == 13) ≡ v → (v && begins (λ d. d == 10) cs) ≡ false
-    stays_by false e = refl
-    stays_by true e = let is : c ≡ 13 = grind (arith, nat_tests) in let wrong : is_digit_below 16 13 ≡ true = ap (is_digit_below 16) (sym is) ∙ t in absurd (cc)
-
 hex_none : (n v : ℕ) (cs : List ℕ) → begins (is_digit_below 16) cs ≡ false → hex_value (suc n) v cs ≡ None
 hex_none n v [] e = refl
 hex_none n v (c ∷ cs) e = rw e refl
 
-pub hex_same : (n v : ℕ) (cs : List ℕ) → hex_value n v (inside cs) ≡ hex_value n v cs
+pub hex_same : (n v : ℕ) (cs : List ℕ) → hex_value n v (decoded_behind 0 cs) ≡ hex_value n v cs
 hex_same zero v cs = refl
-hex_same (suc n) v [] = hex_none n v (inside []) (inside_begins (is_digit_below 16) refl refl high_digit [])
+hex_same (suc n) v [] = hex_none n v (decoded_behind 0 []) (decoded_begins (is_digit_below 16) high_digit [])
 hex_same (suc n) v (c ∷ cs) = same_by (is_digit_below 16 c) refl (hex_same n (v * 16 + digit_value c) cs)
   where
-    same_by : (t : Bool) → is_digit_below 16 c ≡ t → hex_value n (v * 16 + digit_value c) (inside cs) ≡ hex_value n (v * 16 + digit_value c) cs
-        → hex_value (suc n) v (inside (c ∷ cs)) ≡ hex_value (suc n) v (c ∷ cs)
-    same_by true e ih = ap (hex_value (suc n) v) (inside_ascii c cs (digit_low c e) (digit_stays c cs e)) ∙ ap (λ r. cond (is_digit_below 16 c) r None) ih
-    same_by false e ih = hex_none n v (inside (c ∷ cs)) (inside_begins (is_digit_below 16) refl refl high_digit (c ∷ cs) ∙ e) ∙ sym (hex_none n v (c ∷ cs) e)
+    same_by : (t : Bool) → is_digit_below 16 c ≡ t → hex_value n (v * 16 + digit_value c) (decoded_behind 0 cs) ≡ hex_value n (v * 16 + digit_value c) cs
+        → hex_value (suc n) v (decoded_behind 0 (c ∷ cs)) ≡ hex_value (suc n) v (c ∷ cs)
+    same_by true e ih = ap (hex_value (suc n) v) (decoded_ascii c cs (digit_low c e)) ∙ ap (λ r. cond (is_digit_below 16 c) r None) ih
+    same_by false e ih = hex_none n v (decoded_behind 0 (c ∷ cs)) (decoded_begins (is_digit_below 16) high_digit (c ∷ cs) ∙ e) ∙ sym (hex_none n v (c ∷ cs) e)
 
-pub hex_drop : (n v w : ℕ) (cs : List ℕ) → hex_value n v cs ≡ Some w → (drop n (inside cs) ≡ inside (drop n cs)) × (n ≤ length cs)
+pub hex_drop : (n v w : ℕ) (cs : List ℕ) → hex_value n v cs ≡ Some w → (drop n (decoded_behind 0 cs) ≡ decoded_behind 0 (drop n cs)) × (n ≤ length cs)
 hex_drop zero v w cs e = (refl, omega arith)
 hex_drop (suc n) v w [] e = absurd (cc)
 hex_drop (suc n) v w (c ∷ cs) e = drop_by (is_digit_below 16 c) refl e (hex_drop n (v * 16 + digit_value c) w cs)
   where
     drop_by : (t : Bool) → is_digit_below 16 c ≡ t → cond t (hex_value n (v * 16 + digit_value c) cs) None ≡ Some w
-        → (hex_value n (v * 16 + digit_value c) cs ≡ Some w → (drop n (inside cs) ≡ inside (drop n cs)) × (n ≤ length cs)) → (drop (suc n) (inside (c ∷ cs)) ≡ inside (drop n cs)) × (suc n ≤ suc (length cs))
-    drop_by true d e ih = let two = ih e in (ap (drop (suc n)) (inside_ascii c cs (digit_low c d) (digit_stays c cs d)) ∙ two.0, omega (arith, two.1))
+        → (hex_value n (v * 16 + digit_value c) cs ≡ Some w → (drop n (decoded_behind 0 cs) ≡ decoded_behind 0 (drop n cs)) × (n ≤ length cs)) → (drop (suc n) (decoded_behind 0 (c ∷ cs)) ≡ decoded_behind 0 (drop n cs)) × (suc n ≤ suc (length cs))
+    drop_by true d e ih = let two = ih e in (ap (drop (suc n)) (decoded_ascii c cs (digit_low c d)) ∙ two.0, omega (arith, two.1))
     drop_by false d e ih = absurd (cc)
 
-pub content_all : (all rest : List ℕ) (n : ℕ) (x : Content) → length rest ≡ 0 → behind all (lines_on n (raw_content rest)) ≡ x → Ok all ≡ x
-unfolding inside decoded
+pub content_all : (all rest : List ℕ) (n : ℕ) (x : Content) → length rest ≡ 0 → behind all (lines_on n (content_of rest)) ≡ x → Ok all ≡ x
 content_all all [] n x e same = ap (λ ys. Ok ys) (sym (append-nil all)) ∙ same
 content_all all (b ∷ more) n x e same = absurd (omega arith)

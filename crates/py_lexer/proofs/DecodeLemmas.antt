@@ -1,13 +1,15 @@
 -- Decoding, one character at a time, and the characters that are not ASCII.
-use Rattle.std.proofs.Common.{◌≡◌, ◌∙◌, sym, ap, refl, ℕ, zero, suc, ◌+◌, ◌<◌, ◌≤◌, Bool, true, false, cond, ◌&&◌, List, [], ◌∷◌, ◌++◌, length, take, drop, chars, encode_utf8, encode_utf8_all, IsAscii, arith}
+use Rattle.std.proofs.Common.{◌≡◌, ◌∙◌, sym, ap, refl, ℕ, zero, suc, ◌+◌, ◌<◌, Bool, true, false, cond, ◌&&◌, List, [], ◌∷◌, ◌++◌, length, take, drop, min, chars, encode_utf8, encode_utf8_all, IsAscii, arith}
 use Rattle.std.specs.Prelude.{nat_le, nat_lt, take_while}
 use Rattle.std.specs.List.{prefix_len, list_all}
 use Rattle.std.specs.Str.{is_utf8, all_scalars, continuation_len}
 use Rattle.std.proofs.lemmas.Str.{is_utf8-from_IsUtf8, IsUtf8-from_is_utf8, IsUtf8-from_ascii, chars-IsAscii, chars-encodes, encode_ascii}
+use Rattle.std.proofs.lemmas.List.{take_min}
+use Rattle.std.proofs.lemmas.List.Folds.{list_all-append}
 use Rattle.std.proofs.lemmas.Bool.Decides.{nat_tests}
 use Rattle.std.proofs.Math.Numerals.{one-add}
-use Rattle.py_language.specs.TokensCharacters.{begins, with_line_feeds, more_bytes, is_character, not_utf8, decoded_behind}
-use Rattle.py_lexer.proofs.RunLemmas.{run_len, run_take}
+use Rattle.py_language.specs.TokensCharacters.{begins, more_bytes, is_character, not_utf8, decoded_behind}
+use Rattle.py_lexer.proofs.ClassLemmas.{and_both}
 
 abbrev pub is_high : ℕ → Bool
 is_high c = nat_le 128 c
@@ -44,31 +46,25 @@ decoded_wide b bs t = decoded_by b bs (more_bytes b bs) true refl t ∙ ap (λ c
 pub decoded_bad : (b : ℕ) (bs : List ℕ) → is_utf8 (b ∷ more_bytes b bs) ≡ false → decoded_behind 0 (b ∷ bs) ≡ not_utf8 ∷ decoded_behind 0 bs
 decoded_bad b bs f = decoded_by b bs (more_bytes b bs) false refl f
 
--- ---- the bytes behind a first byte, with line feeds
+-- ---- the bytes after a first byte
 
-take_within : (m n : ℕ) (xs : List ℕ) → length (take m (take n xs)) ≤ n
-take_within zero n xs = omega arith
-take_within (suc m) zero xs = omega arith
-take_within (suc m) (suc n) [] = omega arith
-take_within (suc m) (suc n) (x ∷ xs) = omega (arith, take_within m n xs)
+-- those of the class among the first m are the first m of those of the class
+front_by : (p : ℕ → Bool) (m : ℕ) (xs : List ℕ) → take (prefix_len p (take m xs)) xs ≡ take m (take_while p xs)
+front_by p zero xs = refl
+front_by p (suc m) [] = refl
+front_by p (suc m) (x ∷ xs) = by (p x) (front_by p m xs)
+  where
+    by : (v : Bool) → take (prefix_len p (take m xs)) xs ≡ take m (take_while p xs) → take (cond v (1 + prefix_len p (take m xs)) 0) (x ∷ xs) ≡ take (suc m) (take (cond v (1 + prefix_len p xs) 0) (x ∷ xs))
+    by true ih = rw (one-add (prefix_len p (take m xs)), one-add (prefix_len p xs)) (ap (λ ys. x ∷ ys) ih)
+    by false ih = refl
 
-pub more_within : (b : ℕ) (bs : List ℕ) → length (more_bytes b bs) ≤ prefix_len is_high bs
-more_within b bs = take_within (continuation_len b) (prefix_len is_high bs) bs
-
-pub more_same : (b : ℕ) (bs : List ℕ) → more_bytes b (with_line_feeds bs) ≡ more_bytes b bs
-more_same b bs =
-    ap (λ n. take (continuation_len b) (take n (with_line_feeds bs))) (run_len is_high refl refl bs)
-    ∙ ap (take (continuation_len b)) (run_take is_high refl refl (prefix_len is_high bs) bs (omega arith))
+pub more_is : (b : ℕ) (xs : List ℕ) → take (prefix_len is_high (take (min (continuation_len b) (length xs)) xs)) xs ≡ more_bytes b xs
+more_is b xs = ap (λ ys. take (prefix_len is_high ys) xs) (take_min (continuation_len b) xs) ∙ front_by is_high (continuation_len b) xs
 
 -- ---- characters that are not ASCII
 
 all_append : (xs ys : List ℕ) → list_all is_high (xs ++ ys) ≡ true → (list_all is_high xs ≡ true) × (list_all is_high ys ≡ true)
-all_append [] ys e = (refl, e)
-all_append (x ∷ xs) ys e = by_first (is_high x) (all_append xs ys) e
-  where
-    by_first : (v : Bool) → (list_all is_high (xs ++ ys) ≡ true → (list_all is_high xs ≡ true) × (list_all is_high ys ≡ true)) → (v && list_all is_high (xs ++ ys)) ≡ true → ((v && list_all is_high xs) ≡ true) × (list_all is_high ys ≡ true)
-    by_first true ih h = ih h
-    by_first false ih h = absurd (cc)
+all_append xs ys e = and_both (list_all is_high xs) (list_all is_high ys) (sym (list_all-append is_high xs ys) ∙ e)
 
 high_char : (c : ℕ) → list_all is_high (encode_utf8 c) ≡ true → is_high c ≡ true
 high_char c e = high_by (is_high c) refl
@@ -120,25 +116,28 @@ wide b bs h t =
 
 -- ---- the first character
 
-module _ (p : ℕ → Bool) (ascii : (c : ℕ) → is_high c ≡ true → p c ≡ false) where
-  first_high : (xs ys : List ℕ) (c : ℕ) (cs : List ℕ) → xs ≡ c ∷ cs → list_all is_high (c ∷ cs) ≡ true → begins p (xs ++ ys) ≡ false
-  first_high xs ys c cs e h = ap (λ zs. begins p (zs ++ ys)) e ∙ ascii c (first_by (is_high c) h)
-    where
-      first_by : (v : Bool) → (v && list_all is_high cs) ≡ true → v ≡ true
-      first_by true h = refl
-      first_by false h = absurd (cc)
+-- a byte that is not ASCII begins a character that is not, or is not UTF-8
+pub record High (cs : List ℕ) : Type 0 where
+  pub first : ℕ
+  pub others : List ℕ
+  pub are : cs ≡ first ∷ others
+  pub high : is_high first ≡ true
 
-  -- a class of ASCII characters begins the characters where it begins the bytes
-  pub decoded_begins : (bs : List ℕ) → begins p (decoded_behind 0 bs) ≡ begins p bs
-  decoded_begins [] = refl
-  decoded_begins (b ∷ bs) = by_byte (is_high b) refl
-    where
-      by_wide : (v : Bool) → is_high b ≡ true → is_utf8 (b ∷ more_bytes b bs) ≡ v → begins p (decoded_behind 0 (b ∷ bs)) ≡ p b
-      by_wide true h t =
-          let w = wide b bs h t in
-          ap (begins p) (decoded_wide b bs t) ∙ (first_high (chars (b ∷ more_bytes b bs)) (decoded_behind 0 (drop (length (more_bytes b bs)) bs)) w.first w.others w.are w.high ∙ sym (ascii b h))
-      by_wide false h t = ap (begins p) (decoded_bad b bs t) ∙ (ascii not_utf8 refl ∙ sym (ascii b h))
+pub high_begins : (b : ℕ) (bs : List ℕ) → is_high b ≡ true → High (decoded_behind 0 (b ∷ bs))
+high_begins b bs h = begins_by (is_utf8 (b ∷ more_bytes b bs)) refl
+  where
+    begins_by : (v : Bool) → is_utf8 (b ∷ more_bytes b bs) ≡ v → High (decoded_behind 0 (b ∷ bs))
+    begins_by false t = record { first = not_utf8; others = decoded_behind 0 bs; are = decoded_bad b bs t; high = refl }
+    begins_by true t =
+        let w = wide b bs h t in
+        let rest = decoded_behind 0 (drop (length (more_bytes b bs)) bs) in
+        record { first = w.first; others = w.others ++ rest; are = decoded_wide b bs t ∙ ap (λ cs. cs ++ rest) w.are; high = (and_both (is_high w.first) (list_all is_high w.others) w.high).0 }
 
-      by_byte : (v : Bool) → is_high b ≡ v → begins p (decoded_behind 0 (b ∷ bs)) ≡ p b
-      by_byte true h = by_wide (is_utf8 (b ∷ more_bytes b bs)) h refl
-      by_byte false h = ap (begins p) (decoded_ascii b bs (grind (arith, nat_tests)))
+-- a class of ASCII characters begins the characters where it begins the bytes
+pub decoded_begins : (p : ℕ → Bool) → ((c : ℕ) → is_high c ≡ true → p c ≡ false) → (bs : List ℕ) → begins p (decoded_behind 0 bs) ≡ begins p bs
+decoded_begins p ascii [] = refl
+decoded_begins p ascii (b ∷ bs) = by_byte (is_high b) refl
+  where
+    by_byte : (v : Bool) → is_high b ≡ v → begins p (decoded_behind 0 (b ∷ bs)) ≡ p b
+    by_byte true h = let first = high_begins b bs h in ap (begins p) first.are ∙ (ascii first.first first.high ∙ sym (ascii b h))
+    by_byte false h = ap (begins p) (decoded_ascii b bs (grind (arith, nat_tests)))

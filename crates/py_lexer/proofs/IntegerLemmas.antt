@@ -1,12 +1,14 @@
 -- The longest integer, found by one pass.
 use Rattle.std.proofs.Common.{◌≡◌, ◌∙◌, sym, ap, refl, ℕ, zero, suc, ◌+◌, ◌<◌, ◌≤◌, Bool, true, false, cond, ◌&&◌, ◌||◌, List, [], ◌∷◌, length, take, arith}
 use Rattle.std.specs.Prelude.{◌==◌}
+use Rattle.std.proofs.Math.Bool.{and-false, or-true}
 use Rattle.std.proofs.lemmas.Bool.Decides.{nat_tests}
 use Rattle.std.proofs.Math.Numerals.{one-add}
 use Rattle.py_language.specs.TokensCharacters.{is_digit, begins}
 use Rattle.py_language.specs.TokensNumbers.{are_digits, is_based, is_digit_below, base_of, is_nil}
 use Rattle.py_language.specs.TokensPieces.{longest}
 use Rattle.py_lexer.specs.Scan.{digits_len, one_more, based_len, zero_more, integer_more}
+use Rattle.py_lexer.proofs.ClassLemmas.{and_both}
 use Rattle.py_lexer.proofs.LongestLemmas.{longest_at, digit_spells}
 
 module _ (p : ℕ → Bool) where
@@ -28,13 +30,8 @@ module _ (p : ℕ → Bool) where
   step_by true w c cs ev ew ih first = rw (one-add (digits_len p cs), ev) ih
   step_by false false c cs ev ew ih first = refl
   step_by false true c cs ev ew ih first =
-      let two = both (c == 95) (begins p cs) ew in
+      let two = and_both (c == 95) (begins p cs) ew in
       rw (one-add (digits_len p cs), ev, two.0, first two.1) ih
-    where
-      both : (a b : Bool) → (a && b) ≡ true → (a ≡ true) × (b ≡ true)
-      both true true e = (refl, refl)
-      both true false e = absurd (cc)
-      both false b e = absurd (cc)
 
   pub digits_pass : (cs : List ℕ) → are_digits p (take (digits_len p cs) cs) ≡ true
   digits_pass [] = refl
@@ -57,7 +54,7 @@ module _ (p : ℕ → Bool) where
   digits_stop (c ∷ cs) zero lt le = absurd (omega arith)
   digits_stop (c ∷ cs) (suc n) lt le = stops_by (p c) (c == 95) (begins p (take n cs)) (begins p cs) (are_digits p (take n cs)) n (digits_len p cs) (begins_front n cs) lt (λ less. digits_stop cs n less (omega arith))
 
--- ---- behind `0`
+-- ---- after `0`
 
 based_fits_by : (d m : ℕ) → d ≤ m → one_more d ≤ suc m
 based_fits_by zero m le = omega arith
@@ -78,12 +75,8 @@ no_base [] = refl
 no_base (c ∷ cs) =
     let here : is_digit_below 0 c ≡ false = grind (arith, nat_tests) in
     let next : begins (is_digit_below 0) cs ≡ false = none_begins cs in
-    rw (here, next, and_false (c == 95)) refl
+    rw (here, next, and-false (c == 95)) refl
   where
-    and_false : (b : Bool) → (b && false) ≡ false
-    and_false true = refl
-    and_false false = refl
-
     none_begins : (xs : List ℕ) → begins (is_digit_below 0) xs ≡ false
     none_begins [] = refl
     none_begins (x ∷ xs) = grind (arith, nat_tests)
@@ -108,10 +101,6 @@ base_apart m ds d e xs =
     zero_by false t = refl
     zero_by true t = let same : (m == 48) ≡ true = (let is : m ≡ 48 = zero_is m t in grind (arith, nat_tests)) in let other : (m == 48) ≡ false = base_not m 48 ds d refl e in absurd (cc)
 
-or_true : (b : Bool) → (b || true) ≡ true
-or_true true = refl
-or_true false = refl
-
 not_nil : (n : ℕ) (ds : List ℕ) → 0 < n → n ≤ length ds → is_nil (take n ds) ≡ false
 not_nil zero ds lo le = absurd (omega arith)
 not_nil (suc n) [] lo le = absurd (omega arith)
@@ -120,13 +109,13 @@ not_nil (suc n) (d ∷ ds) lo le = refl
 abbrev front : List ℕ → ℕ → Bool
 front cs n = is_zeros (take n cs) || is_based (take n cs)
 
--- with a base's letter, and d + 1 digits behind it
+-- with a base's letter, and d + 1 digits after it
 based_here : (m : ℕ) (ds : List ℕ) (d : ℕ) → digits_len (is_digit_below (base_of m)) ds ≡ suc d → front (m ∷ ds) (suc (suc d)) ≡ true
 based_here m ds d e =
     let p = is_digit_below (base_of m) in
     let le : suc d ≤ length ds = omega (arith, digits_fit p ds) in
     let pass : are_digits p (take (suc d) ds) ≡ true = ap (λ n. are_digits p (take n ds)) (sym e) ∙ digits_pass p ds in
-    rw (not_nil (suc d) ds (omega arith) le, pass) (or_true (is_zeros (m ∷ take (suc d) ds)))
+    rw (not_nil (suc d) ds (omega arith) le, pass) (or-true (is_zeros (m ∷ take (suc d) ds)))
 
 based_above : (m : ℕ) (ds : List ℕ) (d : ℕ) → digits_len (is_digit_below (base_of m)) ds ≡ suc d → (n : ℕ) → suc (suc d) < n → n ≤ suc (length ds) → front (m ∷ ds) n ≡ false
 based_above m ds d e zero lt le = absurd (omega arith)

@@ -1,10 +1,11 @@
 -- The longest front that spells something, found by one pass: names, blanks, comments and line ends.
-use Rattle.std.proofs.Common.{◌≡◌, ◌∙◌, sym, ap, refl, ℕ, zero, suc, ◌+◌, ◌<◌, ◌≤◌, Bool, true, false, cond, ◌&&◌, ◌||◌, not, List, [], ◌∷◌, length, take, None, is_some, bytes_eq, ⊎_elim, arith}
-use Rattle.std.specs.Prelude.{◌==◌, nat_le}
+use Rattle.std.proofs.Common.{◌≡◌, ◌∙◌, sym, ap, refl, ℕ, zero, suc, ◌+◌, ◌<◌, ◌≤◌, Bool, true, false, cond, ◌&&◌, ◌||◌, not, List, [], ◌∷◌, length, take, Some, None, is_some, bytes_eq, ⊎_elim, arith}
+use Rattle.std.specs.Prelude.{◌==◌}
 use Rattle.std.specs.List.{prefix_len, list_all}
 use Rattle.std.proofs.lemmas.Bool.Decides.{nat_tests}
 use Rattle.std.proofs.lemmas.Slice.Eq.{bytes_eq-Decides}
 use Rattle.std.proofs.str.Laws.{order}
+use Rattle.std.proofs.Math.Bool.{or-false}
 use Rattle.std.proofs.Math.Numerals.{one-add}
 use Rattle.std.proofs.lemmas.List.Sums.{prefix_len-le-length}
 use Rattle.py_language.specs.declared.token.Mark.{Mark}
@@ -13,6 +14,7 @@ use Rattle.py_language.specs.TokensNames.{listed}
 use Rattle.py_language.specs.TokensNumbers.{are_digits, is_based, is_digit_below}
 use Rattle.py_language.specs.TokensMarks.{marks, mark_of, is_mark}
 use Rattle.py_language.specs.TokensPieces.{is_comment, is_line_end, spells, longest_within, longest}
+use Rattle.py_lexer.proofs.ClassLemmas.{below_get, exclusive}
 
 pub longest_found : (m : ℕ) (z : List ℕ) (k : ℕ) → 0 < k → k ≤ m → spells (take k z) ≡ true → ((n : ℕ) → k < n → n ≤ m → spells (take n z) ≡ false) → longest_within m z ≡ k
 longest_found zero z k lo le here longer = absurd (omega arith)
@@ -67,83 +69,45 @@ module _ (p : ℕ → Bool) where
 
 -- ---- texts that are no mark
 
--- no row that begins with c has n characters or more
-abbrev pub shorter : ℕ → ℕ → List (List ℕ × Mark) → Bool
-shorter n c rows = list_all (λ (r : List ℕ × Mark). not (begins (λ d. d == c) r.0 && nat_le n (length r.0))) rows
+-- no row of a table passes
+abbrev pub none_pass : (List ℕ → Bool) → List (List ℕ × Mark) → Bool
+none_pass p rows = list_all (λ (r : List ℕ × Mark). not (p r.0)) rows
 
-differs_by : (b : Bool) (c : ℕ) (x row : List ℕ) (n : ℕ) → (b ≡ true → c ∷ x ≡ row) → not (begins (λ d. d == c) row && nat_le n (length row)) ≡ true → n ≤ suc (length x) → b ≡ false
-differs_by false c x row n f t le = refl
-differs_by true c x row n f t le =
-    let is : c ∷ x ≡ row = f refl in
-    let same : (c == c) ≡ true = grind (arith, nat_tests) in
-    let long : nat_le n (suc (length x)) ≡ true = grind (arith, nat_tests) in
-    let here : not (begins (λ d. d == c) (c ∷ x) && nat_le n (length (c ∷ x))) ≡ true = ap (λ r. not (begins (λ d. d == c) r && nat_le n (length r))) is ∙ t in
-    let wrong : false ≡ true = sym (rw (same, long) refl) ∙ here in
-    absurd (cc)
+no_row_by : (p : List ℕ → Bool) (a b : Bool) (row : List ℕ × Mark) (rows : List (List ℕ × Mark)) (text : List ℕ) → bytes_eq text row.0 ≡ a → p row.0 ≡ b → (not b && none_pass p rows) ≡ true → p text ≡ true
+    → (none_pass p rows ≡ true → listed rows text ≡ None) → cond a (Some row.1) (listed rows text) ≡ None
+no_row_by p a true row rows text ea eb h t ih = absurd (cc)
+no_row_by p false false row rows text ea eb h t ih = ih h
+no_row_by p true false row rows text ea eb h t ih = let is : text ≡ row.0 = (bytes_eq-Decides text row.0).0 ea in let wrong : true ≡ false = sym t ∙ (ap p is ∙ eb) in absurd (cc)
 
-no_row_by : (a b : Bool) (row : List ℕ × Mark) (rows : List (List ℕ × Mark)) (c : ℕ) (x : List ℕ) (n : ℕ) → not (begins (λ d. d == c) row.0 && nat_le n (length row.0)) ≡ a → (a && b) ≡ true → n ≤ suc (length x)
-    → (b ≡ true → listed rows (c ∷ x) ≡ None) → listed (row ∷ rows) (c ∷ x) ≡ None
-no_row_by false b row rows c x n e h le ih = absurd (cc)
-no_row_by true b row rows c x n e h le ih = rw (differs_by (bytes_eq (c ∷ x) row.0) c x row.0 n ((bytes_eq-Decides (c ∷ x) row.0).0) e le) (ih h)
+no_row : (p : List ℕ → Bool) (rows : List (List ℕ × Mark)) (text : List ℕ) → none_pass p rows ≡ true → p text ≡ true → listed rows text ≡ None
+no_row p [] text h t = refl
+no_row p (row ∷ rows) text h t = no_row_by p (bytes_eq text row.0) (p row.0) row rows text refl refl h t (λ e. no_row p rows text e t)
 
-no_row : (rows : List (List ℕ × Mark)) (c : ℕ) (x : List ℕ) (n : ℕ) → shorter n c rows ≡ true → n ≤ suc (length x) → listed rows (c ∷ x) ≡ None
-no_row [] c x n h le = refl
-no_row (row ∷ rows) c x n h le = no_row_by (not (begins (λ d. d == c) row.0 && nat_le n (length row.0))) (shorter n c rows) row rows c x n refl h le (λ e. no_row rows c x n e le)
-
-pub no_mark : (c : ℕ) (x : List ℕ) (n : ℕ) → shorter n c marks ≡ true → n ≤ suc (length x) → mark_of (c ∷ x) ≡ None
+pub no_mark : (p : List ℕ → Bool) (text : List ℕ) → none_pass p marks ≡ true → p text ≡ true → mark_of text ≡ None
 unfolding mark_of
-no_mark c x n h le = no_row marks c x n h le
+no_mark p text h t = no_row p marks text h t
 
--- ---- the classes of a first character are apart
-
-abbrev pub all_below : ℕ → (ℕ → Bool) → Bool
-all_below zero p = true
-all_below (suc n) p = p n && all_below n p
-
-below_by : (a b : Bool) → (a && b) ≡ true → (a ≡ true) × (b ≡ true)
-below_by true b e = (refl, e)
-below_by false b e = absurd (cc)
-
-pub below_get : (n : ℕ) (p : ℕ → Bool) → all_below n p ≡ true → (k : ℕ) → k < n → p k ≡ true
-below_get zero p h k lt = absurd (omega arith)
-below_get (suc n) p h k lt =
-    let two = below_by (p n) (all_below n p) h in
-    ⊎_elim
-    (λ (less : k < n). below_get n p two.1 k less)
-    (λ (ge : n ≤ k). let e : k ≡ n = omega arith in ap p e ∙ two.0)
-    (order k n)
+-- ---- the classes of a first character
 
 abbrev pub is_known : ℕ → Bool
 is_known c = is_letter c || (is_digit c || (is_blank c || (c == 35 || (c == 10 || (c == 34 || c == 39)))))
 
-known_shorter : (c : ℕ) → c < 256 → (not (is_known c) || shorter 1 c marks) ≡ true
+known_apart : (c : ℕ) → c < 256 → (not (is_known c) || none_pass (begins (λ d. d == c)) marks) ≡ true
 unfolding marks
-known_shorter c lt = below_get 256 (λ d. not (is_known d) || shorter 1 d marks) refl c lt
+known_apart c lt = below_get 256 (λ d. not (is_known d) || none_pass (begins (λ e. e == d)) marks) refl c lt
 
 known_by : (k s : Bool) → (not k || s) ≡ true → k ≡ true → s ≡ true
 known_by true s h e = h
 known_by false s h e = absurd (cc)
 
-pub known_no_mark : (c : ℕ) (x : List ℕ) → c < 256 → is_known c ≡ true → is_mark (c ∷ x) ≡ false
-known_no_mark c x lt k = ap is_some (no_mark c x 1 (known_by (is_known c) (shorter 1 c marks) (known_shorter c lt) k) (omega arith))
-
-or_false : (b : Bool) → (b || false) ≡ b
-or_false true = refl
-or_false false = refl
+pub known_no_mark : (c : ℕ) (x : List ℕ) → c < 256 → is_known c ≡ true → mark_of (c ∷ x) ≡ None
+known_no_mark c x lt k = no_mark (begins (λ d. d == c)) (c ∷ x) (known_by (is_known c) (none_pass (begins (λ d. d == c)) marks) (known_apart c lt) k) (grind (arith, nat_tests))
 
 -- what spells something, by the classes of the first character
 spells_by : (c : ℕ) (x : List ℕ) (l d m b : Bool) → is_letter c ≡ l → is_digit c ≡ d → is_mark (c ∷ x) ≡ m → is_blank c ≡ b
     → spells (c ∷ x) ≡ ((l && list_all is_word x) || ((d && cond (c == 48) (are_digits (is_digit_below 1) x || is_based x) (are_digits (is_digit_below 10) x)) || (m || ((b && list_all is_blank x) || (is_comment (c ∷ x) || is_line_end (c ∷ x))))))
 unfolding spells
 spells_by c x l d m b el ed em eb = rw (el, ed, em, eb) refl
-
-exclusive_by : (a b : Bool) → not (a && b) ≡ true → a ≡ true → b ≡ false
-exclusive_by true false h e = refl
-exclusive_by true true h e = absurd (cc)
-exclusive_by false b h e = absurd (cc)
-
-pub exclusive : (p q : ℕ → Bool) → all_below 256 (λ d. not (p d && q d)) ≡ true → (c : ℕ) → c < 256 → p c ≡ true → q c ≡ false
-exclusive p q t c lt e = exclusive_by (p c) (q c) (below_get 256 (λ d. not (p d && q d)) t c lt) e
 
 pub longest_name : (c : ℕ) (cs : List ℕ) → c < 256 → is_letter c ≡ true → longest (c ∷ cs) ≡ suc (prefix_len is_word cs)
 longest_name c cs lt e =
@@ -152,7 +116,7 @@ longest_name c cs lt e =
     let b : is_blank c ≡ false = exclusive is_letter is_blank refl c lt e in
     let s : (c == 35) ≡ false = exclusive is_letter (λ d. d == 35) refl c lt e in
     let f : (c == 10) ≡ false = exclusive is_letter (λ d. d == 10) refl c lt e in
-    spells_by c x true false false false e d (known_no_mark c x lt (rw e refl)) b ∙ rw (s, f) (or_false (list_all is_word x)))
+    spells_by c x true false false false e d (ap is_some (known_no_mark c x lt (rw e refl))) b ∙ rw (s, f) (or-false (list_all is_word x)))
 
 pub longest_blanks : (c : ℕ) (cs : List ℕ) → c < 256 → is_blank c ≡ true → longest (c ∷ cs) ≡ suc (prefix_len is_blank cs)
 longest_blanks c cs lt e =
@@ -161,12 +125,12 @@ longest_blanks c cs lt e =
     let d : is_digit c ≡ false = exclusive is_blank is_digit refl c lt e in
     let s : (c == 35) ≡ false = exclusive is_blank (λ d. d == 35) refl c lt e in
     let f : (c == 10) ≡ false = exclusive is_blank (λ d. d == 10) refl c lt e in
-    spells_by c x false false false true l d (known_no_mark c x lt (rw (l, d, e) refl)) e ∙ rw (s, f) (or_false (list_all is_blank x)))
+    spells_by c x false false false true l d (ap is_some (known_no_mark c x lt (rw (l, d, e) refl))) e ∙ rw (s, f) (or-false (list_all is_blank x)))
 
 pub longest_comment : (cs : List ℕ) → longest (35 ∷ cs) ≡ suc (prefix_len (λ d. not (d == 10)) cs)
 longest_comment cs =
     longest_run (λ d. not (d == 10)) 35 cs (λ n. let x = take n cs in
-    spells_by 35 x false false false false refl refl (known_no_mark 35 x (omega arith) refl) refl ∙ or_false (list_all (λ d. not (d == 10)) x))
+    spells_by 35 x false false false false refl refl (ap is_some (known_no_mark 35 x (omega arith) refl)) refl ∙ or-false (list_all (λ d. not (d == 10)) x))
 
 alone_by : (n : ℕ) (cs : List ℕ) → 0 < n → n ≤ length cs → bytes_eq (take n cs) [] ≡ false
 alone_by zero cs lo le = absurd (omega arith)
@@ -175,11 +139,11 @@ alone_by (suc n) (c ∷ cs) lo le = refl
 
 pub longest_line_end : (cs : List ℕ) → longest (10 ∷ cs) ≡ 1
 longest_line_end cs =
-    longest_at 10 cs (λ n. bytes_eq (take n cs) []) (λ n le. spells_by 10 (take n cs) false false false false refl refl (known_no_mark 10 (take n cs) (omega arith) refl) refl) 0 (omega arith) refl (λ n lo le. alone_by n cs lo le)
+    longest_at 10 cs (λ n. bytes_eq (take n cs) []) (λ n le. spells_by 10 (take n cs) false false false false refl refl (ap is_some (known_no_mark 10 (take n cs) (omega arith) refl)) refl) 0 (omega arith) refl (λ n lo le. alone_by n cs lo le)
 
 -- a first character of no other class
 pub other_spells : (c : ℕ) (x : List ℕ) → is_letter c ≡ false → is_digit c ≡ false → is_blank c ≡ false → (c == 35) ≡ false → (c == 10) ≡ false → spells (c ∷ x) ≡ is_mark (c ∷ x)
-other_spells c x l d b s f = spells_by c x false false (is_mark (c ∷ x)) false l d refl b ∙ rw (s, f) (or_false (is_mark (c ∷ x)))
+other_spells c x l d b s f = spells_by c x false false (is_mark (c ∷ x)) false l d refl b ∙ rw (s, f) (or-false (is_mark (c ∷ x)))
 
 pub digit_spells : (c : ℕ) (x : List ℕ) → c < 256 → is_digit c ≡ true → spells (c ∷ x) ≡ cond (c == 48) (are_digits (is_digit_below 1) x || is_based x) (are_digits (is_digit_below 10) x)
 digit_spells c x lt e =
@@ -187,4 +151,4 @@ digit_spells c x lt e =
     let b : is_blank c ≡ false = exclusive is_digit is_blank refl c lt e in
     let s : (c == 35) ≡ false = exclusive is_digit (λ d. d == 35) refl c lt e in
     let f : (c == 10) ≡ false = exclusive is_digit (λ d. d == 10) refl c lt e in
-    spells_by c x false true false false l e (known_no_mark c x lt (rw (l, e) refl)) b ∙ rw (s, f) (or_false _)
+    spells_by c x false true false false l e (ap is_some (known_no_mark c x lt (rw (l, e) refl))) b ∙ rw (s, f) (or-false _)

@@ -28,7 +28,7 @@ too_large n e = too_large_by (nat_lt n (2 ^ 127)) refl e
 none_above : (n : ℕ) → 2 ^ 127 ≤ n → in_width n ≡ None
 none_above n h = let t : nat_lt n (2 ^ 127) ≡ false = grind (arith, nat_tests) in rw t refl
 
--- a number that is too large already has no digits behind it that make it smaller
+-- a number that is too large already has no digits after it that make it smaller
 pub stays_large : (base n i : ℕ) (ds : List ℕ) → 0 < base → i < length ds → None ≡ in_width (next_value base n (get_or ds i 0)) → number_from base n (drop i ds) ≡ number_from base 0 ds → None ≡ in_width (number_from base 0 ds)
 stays_large base n i ds lo lt is same =
     let next = next_value base n (get_or ds i 0) in

@@ -1,202 +1,142 @@
 -- The piece at the front of a text, class by class.
-use Rattle.std.proofs.Common.{◌≡◌, ◌∙◌, sym, ap, refl, subst, ℕ, zero, suc, ◌+◌, ◌-◌, ◌<◌, ◌≤◌, Bool, true, false, cond, ◌&&◌, ◌||◌, not, List, [], ◌∷◌, length, take, drop, Option, Some, None, arith}
-use Rattle.std.specs.Prelude.{◌==◌}
-use Rattle.std.specs.List.{prefix_len, list_all, list_any}
+use Rattle.std.proofs.Common.{◌≡◌, ◌∙◌, sym, ap, refl, subst, ℕ, zero, suc, ◌+◌, ◌<◌, ◌≤◌, Bool, true, false, cond, ◌&&◌, not, List, [], ◌∷◌, length, take, drop, min, Option, Some, None, IsAscii, add-one, arith}
+use Rattle.std.specs.Prelude.{◌==◌, nat_lt}
+use Rattle.std.specs.List.{prefix_len, list_all}
+use Rattle.std.specs.Str.{is_utf8, all_scalars}
+use lib.Utf8.{scalar}
 use Rattle.std.proofs.lemmas.Bool.Decides.{nat_tests}
-use Rattle.std.proofs.Math.Numerals.{one-add}
+use Rattle.std.proofs.lemmas.List.Sums.{prefix_len-le-length}
 use Rattle.pyn_base.specs.declared.construct.Construct.{Construct}
-use Rattle.py_language.specs.TokensCharacters.{is_letter, is_digit, is_word, is_blank, is_quote, missing_end, decoded}
-use Rattle.py_language.specs.TokensNames.{name_token}
-use Rattle.py_language.specs.TokensEncoding.{declared_encoding, is_accepted}
+use Rattle.pyn_base.specs.declared.construct.Construct.TheVariants as fault
+use Rattle.py_language.specs.declared.token.Mark.{Mark}
+use Rattle.py_language.specs.TokensCharacters.{is_letter, is_digit, is_word, is_blank, is_quote, begins, decoded, not_utf8}
 use Rattle.py_language.specs.TokensNumbers.{is_nil}
-use Rattle.py_language.specs.TokensPieces.{is_comment, longest, piece_len}
-use Rattle.py_language.specs.TokensLines.{line_feeds}
-use Rattle.py_language.specs.TokensFaults.{declares, first_refused, name_fault}
+use Rattle.py_language.specs.TokensMarks.{mark_of}
+use Rattle.py_language.specs.TokensPieces.{longest, at_least_one, piece_len}
+use Rattle.py_language.specs.TokensFaults.{stray_fault}
 use Rattle.py_lexer.specs.declared.piece.Piece.{Piece}
 use Rattle.py_lexer.specs.declared.piece.Piece.TheVariants as p
-use Rattle.py_lexer.specs.Scan.{ends_here, stops_here, line_len}
-use Rattle.py_lexer.specs.Found.{view, found, found_by, front_len, lines_in, Feeds, or_fault, name_found, blank_found, comment_found, FoundAt}
-use Rattle.py_lexer.proofs.LongestLemmas.{longest_name, longest_blanks, longest_comment, longest_line_end, exclusive}
-use Rattle.py_lexer.proofs.ViewLemmas.{IsEnd, missing_is, view_begins, view_len, len_fits, view_take, view_drop, view_plain, Tail, tail_drop, tail_after, stops_same, line_view}
+use Rattle.py_lexer.specs.Scan.{integer_more, longest_mark, front_of, stray_construct}
+use Rattle.py_lexer.specs.Found.{found_by, or_fault, name_found, number_found, blanks_found, comment_found, bracket_found, mark_found, FoundAt, Other}
+use Rattle.py_lexer.proofs.DecodeLemmas.{decoded_ascii, decoded_wide, decoded_bad, wide}
+use Rattle.py_lexer.proofs.ClassLemmas.{and_both, exclusive}
+use Rattle.py_lexer.proofs.ContentLemmas.{not_bad}
+use Rattle.py_lexer.proofs.LongestLemmas.{longest_name, longest_blanks, longest_comment, longest_line_end, run_passes}
+use Rattle.py_lexer.proofs.IntegerLemmas.{longest_integer, integer_fits}
+use Rattle.py_lexer.proofs.MarkLemmas.{mark_is, mark_len, none_here}
 
-pub declares_by : (text : List ℕ) (e : Bool) → is_comment text ≡ true → e ≡ (length (declared_encoding text) == 0) → not e ≡ declares text
-declares_by text e c h = ap not h ∙ (nils (declared_encoding text) ∙ sym (ap (λ v. v && not (is_nil (declared_encoding text))) c))
-  where
-    nils : (xs : List ℕ) → not (length xs == 0) ≡ not (is_nil xs)
-    nils [] = refl
-    nils (x ∷ xs) = let some : (length (x ∷ xs) == 0) ≡ false = grind (arith, nat_tests) in ap not some
+-- the front of a text, of one character more than the rest
+pub word_is : (text rest : List ℕ) (c n : ℕ) → text ≡ c ∷ rest → take (n + 1) text ≡ c ∷ take n rest
+word_is text rest c n e = ap (λ k. take k text) (add-one n) ∙ ap (take (suc n)) e
 
-pub comment_parts : (h : Bool) (text name : List ℕ) (e a : Bool) (r : Option Construct) → is_comment text ≡ true → name ≡ declared_encoding text → e ≡ (length name == 0) → a ≡ is_accepted h name → r ≡ first_refused (decoded text)
-    → p.Comment (not e) a r ≡ comment_found h text
-comment_parts h text name e a r c n f g k =
-    ap (λ v. p.Comment v a r) (declares_by text e c (f ∙ ap (λ xs. length xs == 0) n))
-    ∙ (ap (λ v. p.Comment (declares text) v r) (g ∙ ap (is_accepted h) n) ∙ ap (p.Comment (declares text) (is_accepted h (declared_encoding text))) k)
-
--- a piece of k more bytes that are the same with line feeds
-pub assembled_at : (h : Bool) (c : ℕ) (cs : List ℕ) (k : ℕ) (piece : Piece) → let t = missing_end (c ∷ cs) in view t (c ∷ cs) ≡ c ∷ view t cs → k ≤ length cs → piece_len c (view t cs) ≡ suc k → take k (view t cs) ≡ take k cs
-    → drop k (view t cs) ≡ view t (drop k cs) → piece ≡ found_by h c (take k cs) (view t (drop k cs)) → lines_in piece ≡ 0 → Feeds piece (line_feeds (c ∷ take k cs)) → FoundAt h (c ∷ cs) piece (suc k)
-assembled_at h c cs k piece plain le len front back what few feeds =
-    let t = missing_end (c ∷ cs) in
-    let n : piece_len c (view t cs) - 1 ≡ k = ap (λ m. m - 1) len ∙ (omega arith) in
-    record {
-      within = omega arith;
-      moves = omega arith;
-      few = omega (arith, few);
-      feeds = subst (λ xs. Feeds piece (line_feeds xs)) (ap (λ xs. c ∷ xs) (sym front) ∙ (ap (λ m. take m (c ∷ view t cs)) (sym len) ∙ ap (λ xs. take (front_len xs) xs) (sym plain))) feeds;
-      what = what ∙ (sym (ap (λ xs. found_by h c xs (view t (drop k cs))) front)
-          ∙ (ap (λ ys. found_by h c (take k (view t cs)) ys) (sym back) ∙ (ap (λ m. found_by h c (take m (view t cs)) (drop m (view t cs))) (sym n) ∙ ap (found h) (sym plain))));
-      behind = sym back ∙ (ap (λ m. drop m (c ∷ view t cs)) (sym len) ∙ ap (λ xs. drop (front_len xs) xs) (sym plain));
-    }
-
-pub assembled : (h : Bool) (c : ℕ) (cs : List ℕ) (k : ℕ) (piece : Piece) → let t = missing_end (c ∷ cs) in (c == 13) ≡ false → k ≤ length cs → piece_len c (view t cs) ≡ suc k → take k (view t cs) ≡ take k cs
-    → drop k (view t cs) ≡ view t (drop k cs) → piece ≡ found_by h c (take k cs) (view t (drop k cs)) → lines_in piece ≡ 0 → Feeds piece (line_feeds (c ∷ take k cs)) → FoundAt h (c ∷ cs) piece (suc k)
-assembled h c cs k piece no_return = assembled_at h c cs k piece (view_plain c cs (missing_end (c ∷ cs)) no_return)
-
--- ---- pieces without a line end
-
-module _ (q : ℕ → Bool) (no_feed : q 10 ≡ false) where
-  pub no_feed_at : (c : ℕ) → q c ≡ true → (c == 10) ≡ false
-  no_feed_at c e = feed_by (c == 10) refl
-    where
-      feed_by : (v : Bool) → (c == 10) ≡ v → v ≡ false
-      feed_by false t = refl
-      feed_by true t = let is : c ≡ 10 = grind (arith, nat_tests) in let wrong : false ≡ true = sym no_feed ∙ (ap q (sym is) ∙ e) in absurd (cc)
-
-  pub run_feeds : (n : ℕ) (cs : List ℕ) → n ≤ prefix_len q cs → line_feeds (take n cs) ≡ 0
-  run_feeds zero cs le = refl
-  run_feeds (suc n) [] le = refl
-  run_feeds (suc n) (c ∷ cs) le = run_by (q c) refl le (run_feeds n cs)
-    where
-      run_by : (v : Bool) → q c ≡ v → suc n ≤ cond v (1 + prefix_len q cs) 0 → (n ≤ prefix_len q cs → line_feeds (take n cs) ≡ 0) → cond (c == 10) 1 0 + line_feeds (take n cs) ≡ 0
-      run_by true e le ih = let none = ih (omega arith) in rw (no_feed_at c e) (omega arith)
-      run_by false e le ih = absurd (omega arith)
-
-  pub piece_feeds : (c n : ℕ) (cs : List ℕ) → (c == 10) ≡ false → n ≤ prefix_len q cs → line_feeds (c ∷ take n cs) ≡ 0
-  piece_feeds c n cs e le = let none = run_feeds n cs le in rw e (omega arith)
-
-pub or_fault_feeds : (o : Option Construct) (piece : Piece) (k : ℕ) → Feeds piece k → Feeds (or_fault o piece) k
-or_fault_feeds None piece k e = e
-or_fault_feeds (Some f) piece k e = tt
-
-in_line_feeds : (xs : List ℕ) → list_all (λ d. not (d == 10)) xs ≡ true → line_feeds xs ≡ 0
-in_line_feeds [] e = refl
-in_line_feeds (x ∷ xs) e = in_by (x == 10) e (in_line_feeds xs)
-  where
-    in_by : (v : Bool) → (not v && list_all (λ d. not (d == 10)) xs) ≡ true → (list_all (λ d. not (d == 10)) xs ≡ true → line_feeds xs ≡ 0) → cond v 1 0 + line_feeds xs ≡ 0
-    in_by true f ih = absurd (cc)
-    in_by false f ih = let none = ih f in omega arith
-
-pub line_fine : (n : ℕ) (rest : List ℕ) → n ≤ line_len rest → list_all (λ d. not (d == 10)) (take n rest) ≡ true
-line_fine zero rest le = refl
-line_fine (suc n) [] le = refl
-line_fine (suc n) (b ∷ bs) le = fine_by (b == 10) (b == 13 && ends_here bs) le (line_fine n bs)
-  where
-    fine_by : (v w : Bool) → suc n ≤ cond (v || w) 0 (1 + line_len bs) → (n ≤ line_len bs → list_all (λ d. not (d == 10)) (take n bs) ≡ true) → (not v && list_all (λ d. not (d == 10)) (take n bs)) ≡ true
-    fine_by true w f ih = absurd (omega arith)
-    fine_by false true f ih = absurd (omega arith)
-    fine_by false false f ih = ih (omega arith)
-
--- ---- names
-
-pub or_fault_lines : (o : Option Construct) (piece : Piece) → lines_in piece ≡ 0 → lines_in (or_fault o piece) ≡ 0
-or_fault_lines None piece e = e
-or_fault_lines (Some f) piece e = refl
-
-name_lines : (word after : List ℕ) → lines_in (name_found word after) ≡ 0
-unfolding name_found
-name_lines word after = or_fault_lines (name_fault word after) (p.Word (name_token word) 0) refl
-
-name_feeds : (word after : List ℕ) → line_feeds word ≡ 0 → Feeds (name_found word after) (line_feeds word)
-unfolding name_found
-name_feeds word after e = or_fault_feeds (name_fault word after) (p.Word (name_token word) 0) (line_feeds word) e
-
-name_same : (word after t : List ℕ) → IsEnd t → name_found word (view t after) ≡ name_found word after
-unfolding name_found name_fault
-name_same word after t e = rw (view_begins is_quote refl refl after t e) refl
+pub found_same : (f : List ℕ → List ℕ → Piece) (text rest word after : List ℕ) (c n : ℕ) (piece : Piece) → text ≡ c ∷ rest → word ≡ take (n + 1) text → after ≡ drop n rest → piece ≡ f word after → piece ≡ f (c ∷ take n rest) (drop n rest)
+found_same f text rest word after c n piece e front back what = what ∙ (ap (λ xs. f xs after) (front ∙ word_is text rest c n e) ∙ ap (f (c ∷ take n rest)) back)
 
 pub no_quote_len : (c : ℕ) (cs : List ℕ) (n : ℕ) → is_quote c ≡ false → longest (c ∷ cs) ≡ suc n → piece_len c cs ≡ suc n
 unfolding piece_len
 no_quote_len c cs n q e = rw (q, e) refl
 
-by_letter : (h : Bool) (c : ℕ) (cs after : List ℕ) → is_quote c ≡ false → is_letter c ≡ true → found_by h c cs after ≡ name_found (c ∷ cs) after
+-- ---- names
+
+word_low : (c : ℕ) → is_word c ≡ true → c < 128
+word_low c e = grind (arith, nat_tests)
+
+words_ascii : (xs : List ℕ) → list_all is_word xs ≡ true → IsAscii xs
+words_ascii [] e i = omega arith
+words_ascii (x ∷ xs) e zero = word_low x ((and_both (is_word x) (list_all is_word xs) e).0)
+words_ascii (x ∷ xs) e (suc i) = words_ascii xs ((and_both (is_word x) (list_all is_word xs) e).1) i
+
+pub name_ascii : (c : ℕ) (rest : List ℕ) → is_letter c ≡ true → IsAscii (c ∷ take (prefix_len is_word rest) rest)
+name_ascii c rest l = words_ascii (c ∷ take (prefix_len is_word rest) rest) (rw l (run_passes is_word rest))
+
+by_letter : (h : Bool) (c : ℕ) (cs after : List ℕ) → is_quote c ≡ false → is_letter c ≡ true → name_found (c ∷ cs) after ≡ found_by h c cs after
 unfolding found_by
-by_letter h c cs after q l = rw (q, l) refl
+by_letter h c cs after q l = sym (rw (q, l) refl)
 
-pub not_return : (c : ℕ) (test : ℕ → Bool) → test 13 ≡ false → test c ≡ true → (c == 13) ≡ false
-not_return c test f e = return_by (c == 13) refl
-  where
-    return_by : (v : Bool) → (c == 13) ≡ v → v ≡ false
-    return_by false t = refl
-    return_by true t = let is : c ≡ 13 = grind (arith, nat_tests) in let wrong : false ≡ true = sym f ∙ (ap test (sym is) ∙ e) in absurd (cc)
-
-pub name_at : (h : Bool) (c : ℕ) (cs : List ℕ) (k : ℕ) (piece : Piece) → c < 256 → is_letter c ≡ true → k ≡ prefix_len is_word cs → piece ≡ name_found (c ∷ take k cs) (drop k cs) → FoundAt h (c ∷ cs) piece (suc k)
+pub name_at : (h : Bool) (c : ℕ) (cs : List ℕ) (k : ℕ) (piece : Piece) → c < 256 → is_letter c ≡ true → k ≡ prefix_len is_word cs → piece ≡ name_found (c ∷ take k cs) (drop k cs) → FoundAt h c cs piece k
 name_at h c cs k piece lt l is what =
-    let t = missing_end (c ∷ cs) in
-    let end : IsEnd t = missing_is (c ∷ cs) in
     let q : is_quote c ≡ false = exclusive is_letter is_quote refl c lt l in
-    let len : prefix_len is_word (view t cs) ≡ k = view_len is_word refl refl cs t end ∙ sym is in
-    let le : k ≤ prefix_len is_word cs = omega arith in
-    assembled h c cs k piece (not_return c is_letter refl l) (omega (arith, len_fits is_word refl refl cs)) (no_quote_len c (view t cs) k q (longest_name c (view t cs) lt l ∙ ap suc len))
-    (view_take is_word refl refl k cs t end le) (view_drop is_word refl refl k cs t end le)
-    (what ∙ (sym (name_same (c ∷ take k cs) (drop k cs) t end) ∙ sym (by_letter h c (take k cs) (view t (drop k cs)) q l)))
-    (ap lines_in what ∙ name_lines (c ∷ take k cs) (drop k cs))
-    (subst (λ q. Feeds q (line_feeds (c ∷ take k cs))) (sym what) (name_feeds (c ∷ take k cs) (drop k cs) (piece_feeds is_word refl c k cs (no_feed_at is_letter refl c l) le)))
+    record { byte = lt; len = no_quote_len c cs k q (longest_name c cs lt l ∙ ap suc (sym is)); within = omega (arith, prefix_len-le-length is_word cs); what = what ∙ by_letter h c (take k cs) (drop k cs) q l }
 
--- ---- blanks
+-- ---- numbers
 
-blank_end : (c : ℕ) (y : List ℕ) → is_blank c ≡ true → drop (prefix_len is_blank y) y ≡ [] → missing_end (c ∷ y) ≡ 10 ∷ []
-blank_end c [] b e = let no_feed : (c == 10) ≡ false = (feed_by (c == 10) refl) in rw no_feed refl
-  where
-    feed_by : (v : Bool) → (c == 10) ≡ v → v ≡ false
-    feed_by false t = refl
-    feed_by true t = let is : c ≡ 10 = grind (arith, nat_tests) in let wrong : false ≡ true = ap is_blank (sym is) ∙ b in absurd (cc)
-blank_end c (d ∷ ds) b e = next_by (is_blank d) refl e (blank_end d ds)
-  where
-    next_by : (v : Bool) → is_blank d ≡ v → drop (cond v (1 + prefix_len is_blank ds) 0) (d ∷ ds) ≡ [] → (is_blank d ≡ true → drop (prefix_len is_blank ds) ds ≡ [] → missing_end (d ∷ ds) ≡ 10 ∷ []) → missing_end (d ∷ ds) ≡ 10 ∷ []
-    next_by true t f ih = ih t (ap (λ n. drop n (d ∷ ds)) (sym (one-add (prefix_len is_blank ds))) ∙ f)
-    next_by false t f ih = absurd (cc)
-
-by_blank : (h : Bool) (c : ℕ) (cs after : List ℕ) → is_quote c ≡ false → is_letter c ≡ false → is_digit c ≡ false → is_blank c ≡ true → found_by h c cs after ≡ blank_found (c ∷ cs) after
+by_digit : (h : Bool) (c : ℕ) (cs after : List ℕ) → is_quote c ≡ false → is_letter c ≡ false → is_digit c ≡ true → number_found (c ∷ cs) after ≡ found_by h c cs after
 unfolding found_by
-by_blank h c cs after q l d b = rw (q, l, d, b) refl
+by_digit h c cs after q l d = sym (rw (q, l, d) refl)
 
-pub blank_at : (h : Bool) (c : ℕ) (cs : List ℕ) (k : ℕ) (piece : Piece) → c < 256 → is_blank c ≡ true → k ≡ prefix_len is_blank cs
-    → piece ≡ p.Blanks (length (c ∷ take k cs)) (list_any (λ d. d == 9) (c ∷ take k cs) && not (stops_here (drop k cs))) → FoundAt h (c ∷ cs) piece (suc k)
+pub number_at : (h : Bool) (c : ℕ) (cs : List ℕ) (k : ℕ) (piece : Piece) → c < 256 → is_digit c ≡ true → k ≡ integer_more c cs → piece ≡ number_found (c ∷ take k cs) (drop k cs) → FoundAt h c cs piece k
+number_at h c cs k piece lt d is what =
+    let q : is_quote c ≡ false = exclusive is_digit is_quote refl c lt d in
+    let l : is_letter c ≡ false = exclusive is_digit is_letter refl c lt d in
+    record { byte = lt; len = no_quote_len c cs k q (longest_integer c cs lt d ∙ ap suc (sym is)); within = omega (arith, integer_fits c cs); what = what ∙ by_digit h c (take k cs) (drop k cs) q l d }
+
+-- ---- blanks, comments and line ends
+
+by_blank : (h : Bool) (c : ℕ) (cs after : List ℕ) → is_quote c ≡ false → is_letter c ≡ false → is_digit c ≡ false → is_blank c ≡ true → blanks_found (c ∷ cs) after ≡ found_by h c cs after
+unfolding found_by
+by_blank h c cs after q l d b = sym (rw (q, l, d, b) refl)
+
+pub blank_at : (h : Bool) (c : ℕ) (cs : List ℕ) (k : ℕ) (piece : Piece) → c < 256 → is_blank c ≡ true → k ≡ prefix_len is_blank cs → piece ≡ blanks_found (c ∷ take k cs) (drop k cs) → FoundAt h c cs piece k
 blank_at h c cs k piece lt b is what =
-    let t = missing_end (c ∷ cs) in
-    let end : IsEnd t = missing_is (c ∷ cs) in
     let q : is_quote c ≡ false = exclusive is_blank is_quote refl c lt b in
     let l : is_letter c ≡ false = exclusive is_blank is_letter refl c lt b in
     let d : is_digit c ≡ false = exclusive is_blank is_digit refl c lt b in
-    let len : prefix_len is_blank (view t cs) ≡ k = view_len is_blank refl refl cs t end ∙ sym is in
-    let le : k ≤ prefix_len is_blank cs = omega arith in
-    let tail : Tail (drop k cs) t = tail_after k cs t (tail_drop c cs t refl) in
-    let stops = stops_same (drop k cs) t tail (λ none. blank_end c cs b (ap (λ n. drop n cs) (sym is) ∙ none)) in
-    assembled h c cs k piece (not_return c is_blank refl b) (omega (arith, len_fits is_blank refl refl cs)) (no_quote_len c (view t cs) k q (longest_blanks c (view t cs) lt b ∙ ap suc len))
-    (view_take is_blank refl refl k cs t end le) (view_drop is_blank refl refl k cs t end le)
-    (what ∙ (ap (λ v. p.Blanks (length (c ∷ take k cs)) (list_any (λ d. d == 9) (c ∷ take k cs) && not v)) (sym stops) ∙ sym (by_blank h c (take k cs) (view t (drop k cs)) q l d b)))
-    (ap lines_in what) (subst (λ q. Feeds q (line_feeds (c ∷ take k cs))) (sym what) (piece_feeds is_blank refl c k cs (no_feed_at is_blank refl c b) le))
+    record { byte = lt; len = no_quote_len c cs k q (longest_blanks c cs lt b ∙ ap suc (sym is)); within = omega (arith, prefix_len-le-length is_blank cs); what = what ∙ by_blank h c (take k cs) (drop k cs) q l d b }
 
--- ---- comments and line ends
-
-by_comment : (h : Bool) (cs after : List ℕ) → found_by h 35 cs after ≡ comment_found h (35 ∷ cs)
+pub comment_at : (h : Bool) (cs : List ℕ) (k : ℕ) (piece : Piece) → k ≡ prefix_len (λ d. not (d == 10)) cs → piece ≡ comment_found h (35 ∷ take k cs) → FoundAt h 35 cs piece k
 unfolding found_by
-by_comment h cs after = refl
+comment_at h cs k piece is what = record { byte = omega arith; len = no_quote_len 35 cs k refl (longest_comment cs ∙ ap suc (sym is)); within = omega (arith, prefix_len-le-length (λ d. not (d == 10)) cs); what = what }
 
-pub comment_at : (h : Bool) (cs : List ℕ) (k : ℕ) (piece : Piece) → k ≡ line_len cs → piece ≡ comment_found h (35 ∷ take k cs) → FoundAt h (35 ∷ cs) piece (suc k)
-comment_at h cs k piece is what =
-    let t = missing_end (35 ∷ cs) in
-    let v = line_view cs t (tail_drop 35 cs t refl) (missing_is (35 ∷ cs)) in
-    assembled h 35 cs k piece refl (omega (arith, v.fits)) (no_quote_len 35 (view t cs) k refl (longest_comment (view t cs) ∙ ap suc (v.len ∙ sym is)))
-    (ap (λ n. take n (view t cs)) is ∙ (v.front ∙ ap (λ n. take n cs) (sym is))) (ap (λ n. drop n (view t cs)) is ∙ (v.back ∙ ap (λ n. view t (drop n cs)) (sym is)))
-    (what ∙ sym (by_comment h (take k cs) (view t (drop k cs)))) (ap lines_in what)
-    (subst (λ q. Feeds q (line_feeds (35 ∷ take k cs))) (sym what) (in_line_feeds (35 ∷ take k cs) (line_fine k cs (omega arith))))
-
-by_line_end : (h : Bool) (cs after : List ℕ) → found_by h 10 cs after ≡ p.LineEnd
+pub line_end_at : (h : Bool) (c : ℕ) (cs : List ℕ) → c ≡ 10 → FoundAt h c cs p.LineEnd 0
 unfolding found_by
-by_line_end h cs after = refl
+line_end_at h c cs is = subst (λ d. FoundAt h d cs p.LineEnd 0) (sym is) (record { byte = omega arith; len = no_quote_len 10 cs 0 refl (longest_line_end cs); within = omega arith; what = refl })
 
-pub line_end_at : (h : Bool) (cs : List ℕ) → FoundAt h (10 ∷ cs) p.LineEnd 1
-line_end_at h cs =
-    let t = missing_end (10 ∷ cs) in
-    assembled h 10 cs 0 p.LineEnd refl (omega arith) (no_quote_len 10 (view t cs) 0 refl (longest_line_end (view t cs))) refl refl (sym (by_line_end h [] (view t cs))) refl refl
+-- ---- marks
+
+by_other : (h : Bool) (c : ℕ) (cs after : List ℕ) (m : Option Mark) → Other c → mark_of (c ∷ cs) ≡ m → mark_found c cs after m ≡ found_by h c cs after
+unfolding found_by
+by_other h c cs after m o e = sym (rw (o.quote, o.letter, o.digit, o.blank, o.hash, o.feed) (ap (mark_found c cs after) e))
+
+nil_is : (k : ℕ) (cs : List ℕ) → k ≤ length cs → is_nil (take k cs) ≡ (k == 0)
+nil_is zero cs le = refl
+nil_is (suc k) [] le = absurd (omega arith)
+nil_is (suc k) (c ∷ cs) le = grind (arith, nat_tests)
+
+pub mark_at_front : (h : Bool) (text cs : List ℕ) (c : ℕ) (mark : Mark) (n k : ℕ) (piece : Piece) → c < 256 → text ≡ c ∷ cs → Other c → Some (mark, n) ≡ longest_mark (min 3 (length text)) text → n ≡ suc k → n ≤ length text
+    → piece ≡ cond (c == 46 && (k == 0 && begins is_digit (drop k cs))) (p.Fault 0 fault.Number) (bracket_found c mark) → FoundAt h c cs piece k
+unfolding mark_found
+mark_at_front h text cs c mark n k piece lt e o found is le what =
+    let found' : Some (mark, n) ≡ longest_mark (min 3 (suc (length cs))) (c ∷ cs) = found ∙ ap (λ xs. longest_mark (min 3 (length xs)) xs) e in
+    let fits : k ≤ length cs = omega (arith, ap length e) in
+    let here : mark_of (c ∷ take k cs) ≡ Some mark = ap (λ j. mark_of (take j (c ∷ cs))) (sym is) ∙ mark_is (min 3 (suc (length cs))) (c ∷ cs) mark n (sym found') in
+    record {
+      byte = lt;
+      len = mark_len c cs o (Some (mark, n)) found' ∙ ap at_least_one is;
+      within = fits;
+      what = what ∙ (ap (λ v. cond (c == 46 && (v && begins is_digit (drop k cs))) (p.Fault 0 fault.Number) (bracket_found c mark)) (sym (nil_is k cs fits)) ∙ by_other h c (take k cs) (drop k cs) (Some mark) o here);
+    }
+
+-- ---- a stray character
+
+stray_by : (c : ℕ) (cs : List ℕ) (s low wide_here : Bool) → (c == 92) ≡ s → nat_lt c 128 ≡ low → is_utf8 (front_of (c ∷ cs)) ≡ wide_here
+    → stray_fault c cs ≡ Some (cond s fault.Backslash (cond low fault.Character (cond wide_here fault.Character fault.Encoding)))
+unfolding stray_fault decoded
+stray_by c cs true low w es el ew = rw es refl
+stray_by c cs false true w es el ew = let fine : (c == not_utf8) ≡ false = grind (arith, nat_tests) in rw (es, decoded_ascii c cs (grind (arith, nat_tests)), fine) refl
+stray_by c cs false false true es el ew =
+    let front = wide c cs (grind (arith, nat_tests)) ew in
+    let fine : (front.first == not_utf8) ≡ false = not_bad front.first ((and_both (scalar front.first) (all_scalars front.others) front.scalar).0) in
+    rw (es, decoded_wide c cs ew, front.are, fine) refl
+stray_by c cs false false false es el ew = rw (es, decoded_bad c cs ew) refl
+
+pub stray_at : (h : Bool) (text cs : List ℕ) (c : ℕ) (f : Construct) → c < 256 → text ≡ c ∷ cs → Other c → None ≡ longest_mark (min 3 (length text)) text → f ≡ stray_construct c text → FoundAt h c cs (p.Fault 0 f) 0
+unfolding mark_found
+stray_at h text cs c f lt e o none is =
+    let none' : None ≡ longest_mark (min 3 (suc (length cs))) (c ∷ cs) = none ∙ ap (λ xs. longest_mark (min 3 (length xs)) xs) e in
+    let why : stray_fault c cs ≡ Some f = stray_by c cs (c == 92) (nat_lt c 128) (is_utf8 (front_of (c ∷ cs))) refl refl refl ∙ ap (λ x. Some x) (sym (is ∙ ap (stray_construct c) e)) in
+    record {
+      byte = lt;
+      len = mark_len c cs o None none';
+      within = omega arith;
+      what = ap (λ x. or_fault x p.LineEnd) (sym why) ∙ by_other h c [] cs None o (none_here c cs o (sym none'));
+    }

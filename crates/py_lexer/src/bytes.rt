@@ -1,10 +1,11 @@
 // Classes of bytes, and the first byte of a text.
-ghost use Rattle.std.specs.Prelude.{◌≡◌, ◌==◌, ◌≤◌, ◌<◌, length, take, take_while, drop, nat_le, chars, IfSome, is_some};
-ghost use Rattle.std.specs.List.{prefix_len};
+ghost use Rattle.std.specs.Prelude.{◌≡◌, ◌==◌, ◌≤◌, ◌<◌, length, take, take_while, nat_le};
+ghost use Rattle.std.specs.List.{list_any, prefix_len};
 ghost use Rattle.std.specs.Char.{digit_value};
 ghost use Rattle.std.specs.Str.{continuation_len};
 ghost use Rattle.py_language.specs.TokensCharacters as spec;
 ghost use Rattle.py_language.specs.TokensNumbers.{is_digit_below};
+ghost use Rattle.py_language.specs.TokensLines.{line_feeds};
 
 pub fn is_letter(b: u8) -> bool
     ensures { result ≡ spec.is_letter b }
@@ -49,6 +50,12 @@ pub fn is_digit_below(n: u8, b: u8) -> bool
     digit_value(b) < n
 }
 
+pub fn contains(text: &[u8], b: u8) -> bool
+    ensures { result ≡ list_any (λ c. c == b) text.now }
+{
+    text.iter().any(|c| *c == b)
+}
+
 pub fn begins_with(text: &[u8], b: u8) -> bool
     ensures { result ≡ spec.begins (λ c. c == b) text.now }
 {
@@ -85,7 +92,7 @@ pub fn begins_digit_below(n: u8, text: &[u8]) -> bool
     }
 }
 
-/// How many bytes of a name stand at the front.
+/// How many bytes of a name are at the front.
 pub fn word_len(text: &[u8]) -> usize
     ensures value { result ≡ prefix_len spec.is_word text.now }
     ensures within { result ≤ length text.now }
@@ -93,7 +100,7 @@ pub fn word_len(text: &[u8]) -> usize
     text.iter().take_while(|b| is_word(**b)).count()
 }
 
-/// How many spaces and tabs stand at the front.
+/// How many spaces and tabs are at the front.
 pub fn blank_len(text: &[u8]) -> usize
     ensures value { result ≡ prefix_len spec.is_blank text.now }
     ensures within { result ≤ length text.now }
@@ -101,7 +108,7 @@ pub fn blank_len(text: &[u8]) -> usize
     text.iter().take_while(|b| is_blank(**b)).count()
 }
 
-/// How many bytes that are not ASCII stand at the front.
+/// How many bytes that are not ASCII are at the front.
 fn high_len(text: &[u8]) -> usize
     ensures value { result ≡ prefix_len (λ c. nat_le 128 c) text.now }
     ensures within { result ≤ length text.now }
@@ -121,11 +128,25 @@ fn continuation_len(b: u8) -> usize
     }
 }
 
-/// How many bytes behind the first may belong to its character.
+/// How many bytes after the first may belong to its character: no others are looked at.
 pub fn more_len(b: u8, rest: &[u8]) -> usize
     ensures value { take result rest.now ≡ spec.more_bytes b rest.now }
-    ensures len { result ≡ length (spec.more_bytes b rest.now) }
     ensures within { result ≤ length rest.now }
 {
-    continuation_len(b).min(high_len(rest))
+    let most = continuation_len(b).min(rest.len());
+    high_len(rest.split_at(most).0)
+}
+
+/// How many line ends a text has.
+pub fn line_feeds(text: &[u8]) -> u64
+    ensures value { result ≡ line_feeds text.now }
+    ensures few { result ≤ length text.now }
+{
+    let mut count: u64 = 0;
+    for b in text {
+        if *b == b'\n' {
+            count += 1;
+        }
+    }
+    count
 }

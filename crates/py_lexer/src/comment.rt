@@ -1,41 +1,23 @@
-// Comments: where they end, what may stand in them, and the encoding that they declare.
-ghost use Rattle.std.specs.Prelude.{◌≡◌, ◌<◌, ◌≤◌, ◌+◌, ◌==◌, ◌∷◌, ◌||◌, [], nat_eq, Some, None, length, take, drop, take_while, bytes_eq, map, codes};
+// Comments: where they end, what may be in them, and the encoding that they declare.
+ghost use Rattle.std.specs.Prelude.{◌≡◌, ◌<◌, ◌≤◌, ◌==◌, ◌||◌, not, Some, None, length, take_while, bytes_eq, map};
 ghost use Rattle.std.specs.List.{prefix_len, starts_with};
 ghost use Rattle.py_language.specs.TokensEncoding as spec;
 ghost use Rattle.py_language.specs.TokensFaults.{first_refused};
-ghost use Rattle.py_language.specs.TokensNumbers.{is_nil};
 ghost use Rattle.py_language.specs.TokensCharacters.{decoded};
-ghost use Rattle.py_lexer.specs.Scan as scan;
 
-use crate::bytes::{begins_with, blank_len, is_word};
+use crate::bytes::{blank_len, is_word};
 use crate::content::character_at;
 use pyn_base::Construct;
 
-/// Whether the line ends here, but for a carriage return.
-pub fn ends_here(text: &[u8]) -> bool
-    ensures { result ≡ scan.ends_here text.now }
-{
-    text.is_empty() || begins_with(text, b'\n')
-}
-
-/// How many bytes stand before the line's end.
+/// How many bytes are before the line's end.
 pub fn line_len(text: &[u8]) -> usize
-    ensures value { result ≡ scan.line_len text.now }
+    ensures value { result ≡ prefix_len (λ c. not (c == 10)) text.now }
     ensures within { result ≤ length text.now }
 {
-    let mut rest = text;
-    let mut len = 0;
-    while let Some((b, more)) = rest.split_first() {
-        if *b == b'\n' || (*b == b'\r' && ends_here(more)) {
-            return len;
-        }
-        len += 1;
-        rest = more;
-    }
-    len
+    text.iter().take_while(|b| **b != b'\n').count()
 }
 
-/// The first character that may stand nowhere.
+/// The first character that is allowed nowhere.
 pub fn refused_in(text: &[u8]) -> Option<Construct>
     ensures { result ≡ first_refused (decoded text.now) }
 {
@@ -69,7 +51,7 @@ fn encoding_len(text: &[u8]) -> usize
         .count()
 }
 
-/// The name of an encoding behind `coding`, or nothing.
+/// The name of an encoding after `coding`, or nothing.
 fn encoding_behind(text: &[u8]) -> &[u8]
     ensures { result.now ≡ spec.encoding_behind text.now }
 {

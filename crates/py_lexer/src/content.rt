@@ -1,13 +1,12 @@
-// What stands inside a string: characters and escapes.
-ghost use Rattle.std.specs.Prelude.{◌≡◌, ◌++◌, option_to_list, ◌<◌, ◌≤◌, ◌+◌, ◌==◌, ◌∷◌, [], false, true, nat_eq, cond, Some, None, Err, length, IfSome, IfNone, IfOk, IfErr};
+// What is inside a string: characters and escapes.
+ghost use Rattle.std.specs.Prelude.{◌≡◌, ◌++◌, option_to_list, ◌<◌, ◌≤◌, ◌+◌, ◌^◌, ◌==◌, ◌∷◌, false, true, cond, Some, None, Err, length, IfSome, IfNone, IfOk};
 ghost use Rattle.std.specs.Str.{is_utf8};
-ghost use Rattle.pyn_base.specs.declared.construct.Construct.TheVariants as fault;
 ghost use Rattle.py_language.specs.TokensCharacters.{begins};
 ghost use Rattle.py_language.specs.TokensStrings as spec;
 ghost use Rattle.py_lexer.specs.Scan as scan;
 
 use crate::bytes::{begins_with, digit_value, is_digit_below, more_len};
-use crate::quoted::vanishes;
+use crate::quoted::{begins_twice, quotes_len};
 use pyn_base::{Construct, Memory, Text};
 use std::alloc::Global;
 use std::str::from_utf8;
@@ -15,13 +14,13 @@ use std::str::from_utf8;
 /// What is read first of the bytes inside a string.
 enum Item<'a> {
     /// A character, unless it is an escaped line end; how many bytes it takes, and the line ends among them.
-    Char(Option<char>, usize, u64),
+    Char(Option<char>, usize, u32),
     /// A character that is not ASCII.
     Wide(&'a str),
     Fault(Construct),
 }
 
-/// The character at the front, if its UTF-8 stands there.
+/// The character at the front, if its UTF-8 is there.
 pub fn character_at(text: &[u8]) -> Option<&str>
     requires { 0 < length text.now }
     ensures found { IfSome result (λ s. s.now ≡ scan.front_of text.now) }
@@ -36,16 +35,6 @@ pub fn character_at(text: &[u8]) -> Option<&str>
     match from_utf8(text.split_at(n).0) {
         Ok(s) => Some(s),
         Err(_) => None,
-    }
-}
-
-fn without_return(text: &[u8]) -> &[u8]
-    ensures value { result.now ≡ scan.without_return text.now }
-    ensures within { length result.now ≤ length text.now }
-{
-    match text.split_first() {
-        Some((b, more)) if vanishes(*b, more) => more,
-        _ => text,
     }
 }
 
@@ -82,7 +71,7 @@ fn hex_escape(n: usize, text: &[u8]) -> Option<(Option<char>, usize)>
     }
 }
 
-/// The escape behind a backslash: its character, and how many bytes it takes there.
+/// The escape after a backslash: its character, and how many bytes it takes there.
 fn escape_at(text: &[u8]) -> Option<(Option<char>, usize)>
     ensures { scan.escape_shown result ≡ spec.escape_of text.now }
 {
@@ -101,7 +90,7 @@ fn escape_at(text: &[u8]) -> Option<(Option<char>, usize)>
     }
 }
 
-fn line_ends_at(text: &[u8]) -> u64
+fn line_ends_at(text: &[u8]) -> u32
     ensures { result ≡ cond (begins (λ d. d == 10) text.now) 1 0 }
 {
     if begins_with(text, b'\n') { 1 } else { 0 }
@@ -111,18 +100,15 @@ fn line_ends_at(text: &[u8]) -> u64
 fn escape_item(more: &[u8]) -> Item<'_>
     ensures { scan.ItemAt (92 ∷ more.now) result }
 {
-    let behind = without_return(more);
-    match escape_at(behind) {
-        Some((c, len)) => {
-            let lines = line_ends_at(behind);
-            Item::Char(c, 1 + (more.len() - behind.len()) + len, lines)
-        }
+    match escape_at(more) {
+        Some((c, len)) => Item::Char(c, len + 1, line_ends_at(more)),
         None => Item::Fault(Construct::Escape),
     }
 }
 
-fn wide_item(text: &[u8]) -> Item<'_>
-    requires { scan.BeginsHigh text.now }
+fn wide_item<'a>(first: u8, more: &[u8], text: &'a [u8]) -> Item<'a>
+    requires text { text.now ≡ first ∷ more.now }
+    requires high { 128 ≤ first }
     ensures { scan.ItemAt text.now result }
 {
     match character_at(text) {
@@ -138,14 +124,11 @@ fn next_item(text: &[u8]) -> Item<'_>
     let Some((b, more)) = text.split_first() else {
         unreachable!();
     };
-    if vanishes(*b, more) {
-        return Item::Char(None, 1, 0);
-    }
     match *b {
         b'\\' => escape_item(more),
         b'\r' => Item::Fault(Construct::Character),
         b'\x0c' => Item::Fault(Construct::Character),
-        128.. => wide_item(text),
+        128.. => wide_item(*b, more, text),
         c => Item::Char(Some(c as char), 1, line_ends_at(text)),
     }
 }
@@ -159,11 +142,11 @@ fn with_char(mut all: Text, c: Option<char>) -> Result<Text, Memory>
     Ok(all)
 }
 
-/// The characters that the bytes between a string's quotes stand for, or the first fault there and the number of
+/// The characters that the bytes between a string's quotes spell, or the first fault there and the number of
 /// line ends before it.
-pub fn string_content(alloc: Global, text: &[u8]) -> Result<Result<Text, (u64, Construct)>, Memory>
-    ensures value { IfOk result (λ r. r ≡ scan.raw_content text.now) }
-    ensures few { IfOk result (λ r. IfErr r (λ e. e.0 ≤ length text.now)) }
+fn content(alloc: Global, text: &[u8]) -> Result<Result<Text, (u32, Construct)>, Memory>
+    requires { length text.now < 2 ^ 32 }
+    ensures { IfOk result (λ r. r ≡ scan.content_of text.now) }
 {
     let mut all = Text::new(alloc);
     let mut lines = 0;
@@ -183,4 +166,19 @@ pub fn string_content(alloc: Global, text: &[u8]) -> Result<Result<Text, (u64, C
         }
     }
     Ok(Ok(all))
+}
+
+/// The characters of a closed string, whose first quote is before the text.
+pub fn string_content(
+    alloc: Global,
+    quote: u8,
+    text: &[u8],
+) -> Result<Result<Text, (u32, Construct)>, Memory>
+    requires { length text.now < 2 ^ 31 }
+    ensures { IfOk result (λ r. r ≡ spec.string_content quote text.now) }
+{
+    let width = quotes_len(begins_twice(quote, text));
+    let inside = text.split_at(width - 1).1;
+    let len = (text.len() + 1).saturating_sub(2 * width);
+    content(alloc, inside.split_at(len).0)
 }

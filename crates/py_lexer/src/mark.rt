@@ -1,165 +1,99 @@
 // Operators and delimiters, the longest that fits.
-ghost use Rattle.std.specs.Prelude.{◌≡◌, ◌<◌, ◌≤◌, ◌+◌, ◌==◌, if◌then◌else◌, Some, None, length, IfSome};
+ghost use Rattle.std.specs.Prelude.{◌≡◌, ◌<◌, ◌≤◌, ◌∷◌, if◌then◌else◌, length, min, IfSome};
+ghost use Rattle.py_language.specs.TokensCharacters.{begins};
+ghost use Rattle.py_language.specs.TokensMarks as spec;
 ghost use Rattle.py_lexer.specs.Scan as scan;
 
-use crate::bytes::begins_with;
+use crate::name::listed;
 use py_language::Mark;
 
-fn begins_second(text: &[u8], b: u8) -> bool
-    ensures { result ≡ scan.begins_second (λ c. c == b) text.now }
+/// The mark that a text is: the most frequent ones are looked at first.
+fn mark_of(text: &[u8]) -> Option<Mark>
+    ensures { result ≡ spec.mark_of text.now }
 {
-    match text.split_first() {
-        Some((_, more)) => begins_with(more, b),
-        None => false,
-    }
+    listed(
+        &[
+            ("(", Mark::LeftParen),
+            (")", Mark::RightParen),
+            (",", Mark::Comma),
+            (".", Mark::Dot),
+            ("=", Mark::Equal),
+            (":", Mark::Colon),
+            ("[", Mark::LeftBracket),
+            ("]", Mark::RightBracket),
+            ("-", Mark::Minus),
+            ("+", Mark::Plus),
+            ("*", Mark::Star),
+            ("/", Mark::Slash),
+            ("{", Mark::LeftBrace),
+            ("}", Mark::RightBrace),
+            ("<", Mark::Less),
+            (">", Mark::Greater),
+            ("%", Mark::Percent),
+            ("@", Mark::At),
+            ("&", Mark::Ampersand),
+            ("|", Mark::Pipe),
+            ("^", Mark::Caret),
+            ("~", Mark::Tilde),
+            (";", Mark::Semicolon),
+            ("==", Mark::EqualEqual),
+            ("!=", Mark::NotEqual),
+            ("+=", Mark::PlusEqual),
+            ("-=", Mark::MinusEqual),
+            ("<=", Mark::LessEqual),
+            (">=", Mark::GreaterEqual),
+            ("**", Mark::DoubleStar),
+            ("//", Mark::DoubleSlash),
+            ("->", Mark::Arrow),
+            (":=", Mark::Walrus),
+            ("*=", Mark::StarEqual),
+            ("/=", Mark::SlashEqual),
+            ("<<", Mark::LeftShift),
+            (">>", Mark::RightShift),
+            ("%=", Mark::PercentEqual),
+            ("@=", Mark::AtEqual),
+            ("&=", Mark::AmpersandEqual),
+            ("|=", Mark::PipeEqual),
+            ("^=", Mark::CaretEqual),
+            ("...", Mark::Ellipsis),
+            ("//=", Mark::DoubleSlashEqual),
+            ("**=", Mark::DoubleStarEqual),
+            (">>=", Mark::RightShiftEqual),
+            ("<<=", Mark::LeftShiftEqual),
+        ],
+        text,
+    )
 }
 
-fn or_equal(plain: Mark, equal: Mark, rest: &[u8]) -> Option<(Mark, usize)>
-    ensures { result ≡ scan.or_equal plain equal rest.now }
+/// What the second byte of a mark may be.
+fn is_second(b: u8) -> bool
+    ensures { result ≡ scan.is_second b }
 {
-    if begins_with(rest, b'=') {
-        Some((equal, 2))
-    } else {
-        Some((plain, 1))
-    }
+    matches!(b, b'=' | b'*' | b'/' | b'<' | b'>' | b'.')
 }
 
-/// A mark, the same with `=`, doubled, and doubled with `=`.
-fn doubled(
-    byte: u8,
-    plain: Mark,
-    equal: Mark,
-    double: Mark,
-    double_equal: Mark,
-    rest: &[u8],
-) -> Option<(Mark, usize)>
-    ensures { result ≡ scan.doubled byte plain equal double double_equal rest.now }
+/// How many bytes a mark may have at most, by its second.
+fn most(rest: &[u8]) -> usize
+    ensures { result ≡ (if begins scan.is_second rest.now then 3 else 1) }
 {
-    if !begins_with(rest, byte) {
-        return or_equal(plain, equal, rest);
-    }
-    if begins_second(rest, b'=') {
-        Some((double_equal, 3))
-    } else {
-        Some((double, 2))
-    }
-}
-
-fn minus(rest: &[u8]) -> Option<(Mark, usize)>
-    ensures { result ≡ scan.minus rest.now }
-{
-    if begins_with(rest, b'>') {
-        Some((Mark::Arrow, 2))
-    } else {
-        or_equal(Mark::Minus, Mark::MinusEqual, rest)
-    }
-}
-
-fn dot(rest: &[u8]) -> Option<(Mark, usize)>
-    ensures { result ≡ scan.dot rest.now }
-{
-    if begins_with(rest, b'.') && begins_second(rest, b'.') {
-        Some((Mark::Ellipsis, 3))
-    } else {
-        Some((Mark::Dot, 1))
-    }
-}
-
-fn exclamation(rest: &[u8]) -> Option<(Mark, usize)>
-    ensures { result ≡ scan.exclamation rest.now }
-{
-    if begins_with(rest, b'=') {
-        Some((Mark::NotEqual, 2))
-    } else {
-        None
-    }
-}
-
-fn operator_at(first: u8, rest: &[u8]) -> Option<(Mark, usize)>
-    ensures { result ≡ scan.operator_at first rest.now }
-{
-    match first {
-        b'+' => or_equal(Mark::Plus, Mark::PlusEqual, rest),
-        b'-' => minus(rest),
-        b'*' => doubled(
-            b'*',
-            Mark::Star,
-            Mark::StarEqual,
-            Mark::DoubleStar,
-            Mark::DoubleStarEqual,
-            rest,
-        ),
-        b'/' => doubled(
-            b'/',
-            Mark::Slash,
-            Mark::SlashEqual,
-            Mark::DoubleSlash,
-            Mark::DoubleSlashEqual,
-            rest,
-        ),
-        b'%' => or_equal(Mark::Percent, Mark::PercentEqual, rest),
-        b'@' => or_equal(Mark::At, Mark::AtEqual, rest),
-        b'&' => or_equal(Mark::Ampersand, Mark::AmpersandEqual, rest),
-        b'|' => or_equal(Mark::Pipe, Mark::PipeEqual, rest),
-        b'^' => or_equal(Mark::Caret, Mark::CaretEqual, rest),
-        b'~' => Some((Mark::Tilde, 1)),
-        _ => None,
-    }
-}
-
-fn comparison_at(first: u8, rest: &[u8]) -> Option<(Mark, usize)>
-    ensures { result ≡ scan.comparison_at first rest.now }
-{
-    match first {
-        b'<' => doubled(
-            b'<',
-            Mark::Less,
-            Mark::LessEqual,
-            Mark::LeftShift,
-            Mark::LeftShiftEqual,
-            rest,
-        ),
-        b'>' => doubled(
-            b'>',
-            Mark::Greater,
-            Mark::GreaterEqual,
-            Mark::RightShift,
-            Mark::RightShiftEqual,
-            rest,
-        ),
-        b'=' => or_equal(Mark::Equal, Mark::EqualEqual, rest),
-        b'!' => exclamation(rest),
-        _ => None,
-    }
-}
-
-fn delimiter_at(first: u8, rest: &[u8]) -> Option<(Mark, usize)>
-    ensures { result ≡ scan.delimiter_at first rest.now }
-{
-    match first {
-        b'(' => Some((Mark::LeftParen, 1)),
-        b')' => Some((Mark::RightParen, 1)),
-        b'[' => Some((Mark::LeftBracket, 1)),
-        b']' => Some((Mark::RightBracket, 1)),
-        b'{' => Some((Mark::LeftBrace, 1)),
-        b'}' => Some((Mark::RightBrace, 1)),
-        b',' => Some((Mark::Comma, 1)),
-        b':' => or_equal(Mark::Colon, Mark::Walrus, rest),
-        b';' => Some((Mark::Semicolon, 1)),
-        b'.' => dot(rest),
-        _ => None,
+    match rest.split_first() {
+        Some((b, _)) if is_second(*b) => 3,
+        _ => 1,
     }
 }
 
 /// The longest mark at the front of a text, and its length.
-pub fn mark_at(first: u8, rest: &[u8]) -> Option<(Mark, usize)>
-    ensures { result ≡ scan.mark_at first rest.now }
+pub fn mark_at(first: u8, rest: &[u8], text: &[u8]) -> Option<(Mark, usize)>
+    requires { text.now ≡ first ∷ rest.now }
+    ensures value { result ≡ scan.longest_mark (min 3 (length text.now)) text.now }
+    ensures within { IfSome result (λ r. (0 < r.1) × (r.1 ≤ length text.now)) }
 {
-    if let Some(found) = delimiter_at(first, rest) {
-        return Some(found);
+    let mut len = text.len().min(most(rest));
+    while len > 0 {
+        if let Some(mark) = mark_of(text.split_at(len).0) {
+            return Some((mark, len));
+        }
+        len -= 1;
     }
-    if let Some(found) = operator_at(first, rest) {
-        return Some(found);
-    }
-    comparison_at(first, rest)
+    None
 }

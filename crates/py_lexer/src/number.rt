@@ -47,7 +47,7 @@ fn based_len(text: &[u8]) -> usize
     }
 }
 
-/// How many bytes behind the first digit belong to the integer.
+/// How many bytes after the first digit belong to the integer.
 pub fn integer_more(first: u8, rest: &[u8]) -> usize
     ensures value { result ≡ scan.integer_more first rest.now }
     ensures within { result ≤ length rest.now }
@@ -94,7 +94,7 @@ fn value_of(base: u8, digits: &[u8]) -> Option<u128>
     in_width(n)
 }
 
-/// The base that a letter behind `0` says, or 0.
+/// The base that a letter after `0` says, or 0.
 fn base_in(text: &[u8]) -> u8
     ensures { result ≡ spec.base_in text.now }
 {

@@ -1,7 +1,6 @@
 // What is read so far, and how a piece joins it.
-ghost use Rattle.std.specs.Prelude.{◌≡◌, ◌<◌, ◌≤◌, ◌+◌, ◌^◌, [], ◌∷◌, ◌++◌, true, Some, None, IfOk};
+ghost use Rattle.std.specs.Prelude.{◌≡◌, ◌<◌, ◌+◌, ◌^◌, Some, None, IfOk};
 ghost use Rattle.py_lexer.specs.Steps as steps;
-ghost use Rattle.py_lexer.specs.Found.{lines_in};
 
 use crate::brackets::Brackets;
 use crate::piece::Piece;
@@ -30,13 +29,13 @@ pub enum Step {
     End(Tokens),
 }
 
-fn stopped(reader: Reader, lines: u64, construct: Construct) -> Step
-    requires { reader.line + lines < 2 ^ 63 }
+fn stopped(reader: Reader, lines: u32, construct: Construct) -> Step
+    requires { reader.line < 2 ^ 62 }
     ensures { result ≡ steps.stopped reader lines construct }
 {
     Step::End(Tokens {
         lines: reader.lines,
-        fault: Some((reader.line + lines, construct)),
+        fault: Some((reader.line + lines as u64, construct)),
     })
 }
 
@@ -62,30 +61,18 @@ fn joined(
 }
 
 #[tactic(auto, unfolding(crate::specs::Steps::with_token))]
-fn with_token(alloc: Global, reader: Reader, token: Token, lines: u64) -> Result<Reader, Memory>
-    requires { reader.line + lines < 2 ^ 63 }
-    ensures { IfOk result (λ r. r ≡ steps.with_token reader token lines) }
+fn with_token(alloc: Global, mut reader: Reader, token: Token) -> Result<Reader, Memory>
+    ensures { IfOk result (λ r. r ≡ steps.with_token reader token) }
 {
-    let Reader {
-        lines: ended,
-        begun,
-        brackets,
-        line,
-        column,
-        undeclared: _,
-    } = reader;
-    Ok(Reader {
-        lines: ended,
-        begun: Some(joined(alloc, begun, line, column, token)?),
-        brackets,
-        line: line + lines,
-        column: 0,
-        undeclared: false,
-    })
+    let begun = reader.begun.take();
+    reader.begun = Some(joined(alloc, begun, reader.line, reader.column, token)?);
+    reader.column = 0;
+    reader.undeclared = false;
+    Ok(reader)
 }
 
 fn opening(alloc: Global, mut reader: Reader, mark: Mark, bracket: u8) -> Result<Step, Memory>
-    requires { reader.line < 2 ^ 63 }
+    requires { reader.line < 2 ^ 62 }
     ensures { IfOk result (λ s. s ≡ steps.opening reader mark bracket) }
 {
     if reader.brackets.len() >= 50 {
@@ -93,7 +80,7 @@ fn opening(alloc: Global, mut reader: Reader, mark: Mark, bracket: u8) -> Result
     }
     let line = reader.line;
     reader.brackets.push(line, bracket)?;
-    Ok(Step::On(with_token(alloc, reader, Token::Mark(mark), 0)?))
+    Ok(Step::On(with_token(alloc, reader, Token::Mark(mark))?))
 }
 
 fn closes(bracket: u8, opener: u8) -> bool
@@ -104,7 +91,7 @@ fn closes(bracket: u8, opener: u8) -> bool
 }
 
 fn closing(alloc: Global, mut reader: Reader, mark: Mark, bracket: u8) -> Result<Step, Memory>
-    requires { reader.line < 2 ^ 63 }
+    requires { reader.line < 2 ^ 62 }
     ensures { IfOk result (λ s. s ≡ steps.closing reader mark bracket reader.brackets) }
 {
     match reader.brackets.pop() {
@@ -112,17 +99,16 @@ fn closing(alloc: Global, mut reader: Reader, mark: Mark, bracket: u8) -> Result
             alloc,
             reader,
             Token::Mark(mark),
-            0,
         )?)),
         _ => Ok(stopped(reader, 0, Construct::Bracket)),
     }
 }
 
-fn blanks(mut reader: Reader, len: u32, is_faulty: bool) -> Step
-    requires { reader.line < 2 ^ 63 }
-    ensures { result ≡ steps.blanks reader len is_faulty }
+fn blanks(mut reader: Reader, len: u32, has_tab: bool) -> Step
+    requires { reader.line < 2 ^ 62 }
+    ensures { result ≡ steps.blanks reader len has_tab }
 {
-    if is_faulty && reader.begun.is_none() {
+    if has_tab && reader.begun.is_none() {
         return stopped(reader, 0, Construct::Tab);
     }
     reader.column = len;
@@ -135,7 +121,7 @@ fn comment(
     is_accepted: bool,
     refused: Option<Construct>,
 ) -> Step
-    requires { reader.line < 2 ^ 63 }
+    requires { reader.line < 2 ^ 62 }
     ensures { result ≡ steps.comment reader declares is_accepted refused }
 {
     if reader.line <= 2 && reader.undeclared && declares && !is_accepted {
@@ -149,63 +135,34 @@ fn comment(
     Step::On(reader)
 }
 
-fn with_line(mut lines: Items<Logical>, begun: Option<Logical>) -> Result<Items<Logical>, Memory>
-    ensures { IfOk result (λ l. l ≡ steps.with_line lines begun) }
-{
-    if let Some(logical) = begun {
-        lines.push(logical)?;
-    }
-    Ok(lines)
-}
-
-pub fn line_end(reader: Reader) -> Result<Reader, Memory>
-    requires { reader.line < 2 ^ 63 }
+fn line_end(mut reader: Reader) -> Result<Reader, Memory>
     ensures { IfOk result (λ r. r ≡ steps.line_end reader reader.brackets) }
 {
-    let Reader {
-        lines,
-        begun,
-        brackets,
-        line,
-        column: _,
-        undeclared,
-    } = reader;
-    if brackets.len() > 0 {
-        return Ok(Reader {
-            lines,
-            begun,
-            brackets,
-            line: line + 1,
-            column: 0,
-            undeclared,
-        });
+    reader.column = 0;
+    if reader.brackets.len() > 0 {
+        return Ok(reader);
     }
-    Ok(Reader {
-        lines: with_line(lines, begun)?,
-        begun: None,
-        brackets,
-        line: line + 1,
-        column: 0,
-        undeclared,
-    })
+    if let Some(logical) = reader.begun.take() {
+        reader.lines.push(logical)?;
+    }
+    Ok(reader)
 }
 
-/// Joins a piece to what is read.
+/// Joins a piece to what is read, but for the line ends in it.
 #[tactic(auto, unfolding(crate::specs::Steps::step))]
 pub fn take_in(alloc: Global, reader: Reader, piece: Piece) -> Result<Step, Memory>
-    requires { reader.line + lines_in piece < 2 ^ 62 }
+    requires { reader.line < 2 ^ 62 }
     ensures { IfOk result (λ s. s ≡ steps.step reader piece) }
 {
     match piece {
-        Piece::Blanks(len, is_faulty) => Ok(blanks(reader, len, is_faulty)),
-        Piece::Comment(declares, is_accepted, refused) => Ok(comment(
-            reader,
+        Piece::Blanks { len, has_tab } => Ok(blanks(reader, len, has_tab)),
+        Piece::Comment {
             declares,
             is_accepted,
             refused,
-        )),
+        } => Ok(comment(reader, declares, is_accepted, refused)),
         Piece::LineEnd => Ok(Step::On(line_end(reader)?)),
-        Piece::Word(token, lines) => Ok(Step::On(with_token(alloc, reader, token, lines)?)),
+        Piece::Token(token) => Ok(Step::On(with_token(alloc, reader, token)?)),
         Piece::Opening(mark, bracket) => opening(alloc, reader, mark, bracket),
         Piece::Closing(mark, bracket) => closing(alloc, reader, mark, bracket),
         Piece::Fault(lines, construct) => Ok(stopped(reader, lines, construct)),

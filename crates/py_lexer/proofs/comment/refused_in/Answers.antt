@@ -1,14 +1,14 @@
-use Rattle.std.proofs.Common.{◌∙◌, ap, arith}
+use Rattle.std.proofs.Common.{◌∙◌, ap, refl, arith}
 use Rattle.py_language.specs.TokensCharacters.{decoded}
 use Rattle.py_language.specs.TokensFaults.{first_refused}
-use Rattle.py_lexer.proofs.CommentLemmas.{refused_ascii, refused_return, refused_form, refused_wide, refused_bad, refused_none}
+use Rattle.py_lexer.proofs.CommentLemmas.{refused_ascii, refused_here, refused_wide, refused_bad, refused_none}
 use Rattle.py_lexer.proofs.comment.refused_in.Goals as goal
 
 pub returns-in-13 : goal.returns-in-13
-returns-in-13 c = refused_return c.loop-b.rest.now c.in-Some.more.now c.in-Some.b.now _ c.in-Some.ensures.cases.0 c.in-13.is c.loop-b.invariant
+returns-in-13 c = refused_here c.loop-b.rest.now c.in-Some.more.now c.in-Some.b.now 13 _ c.in-Some.ensures.cases.0 c.in-13.is (omega arith) refl c.loop-b.invariant
 
 pub returns-in-12 : goal.returns-in-12
-returns-in-12 c = refused_form c.loop-b.rest.now c.in-Some.more.now c.in-Some.b.now _ c.in-Some.ensures.cases.0 c.in-12.is c.loop-b.invariant
+returns-in-12 c = refused_here c.loop-b.rest.now c.in-Some.more.now c.in-Some.b.now 12 _ c.in-Some.ensures.cases.0 c.in-12.is (omega arith) refl c.loop-b.invariant
 
 pub loop-b-preserved-then-b-lt128 : goal.loop-b-preserved-then-b-lt128
 loop-b-preserved-then-b-lt128 c = refused_ascii c.loop-b.rest.now c.in-Some.more.now c.in-Some.b.now _ c.in-Some.ensures.cases.0 (omega arith) (λ e. omega arith) (λ e. omega arith) c.loop-b.invariant

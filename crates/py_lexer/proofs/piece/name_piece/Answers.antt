@@ -1,11 +1,13 @@
-use Rattle.std.proofs.Common.{◌∙◌, ap, sym, subst, IsAscii, arith}
+use Rattle.std.proofs.Common.{◌∙◌, ◌∷◌, ap, sym, subst, take, IsAscii, arith}
 use Rattle.py_lexer.specs.Found.{name_found}
-use Rattle.py_lexer.proofs.FrontLemmas.{name_ascii, name_front}
+use Rattle.py_lexer.proofs.PieceLemmas.{word_is, found_same, name_ascii, name_at}
 use Rattle.py_lexer.proofs.piece.name_piece.Goals as goal
 
 pub name_found-requires : goal.name_found-requires
-name_found-requires c = subst IsAscii (sym c.split_at.ensures.front) (name_ascii c.args.text.now c.args.rest.now c.args.first c.word_len-len.result c.requires.text c.requires.first c.word_len-len.ensures.value)
+name_found-requires c =
+    subst IsAscii (sym (c.split_at.ensures.front ∙ (word_is c.args.text.now c.args.rest.now c.args.first c.word_len-more.result c.requires.text ∙ ap (λ n. c.args.first ∷ take n c.args.rest.now) c.word_len-more.ensures.value)))
+    (name_ascii c.args.first c.args.rest.now c.requires.first)
 
 pub returns : goal.returns
-returns c = λ h. name_front h c.args.text.now c.args.rest.now c.args.first c.word_len-len.result c.in_ok-name_found.field-0 c.requires.text (omega arith) c.requires.first c.word_len-len.ensures.value
-    (c.in_ok-name_found.ensures ∙ (ap (λ xs. name_found xs c.split_at.result.1.now) c.split_at.ensures.front ∙ ap (name_found _) c.split_at.ensures.back))
+returns c = λ h. name_at h c.args.first c.args.rest.now c.word_len-more.result c.in_ok-name_found.field-0 (omega arith) c.requires.first c.word_len-more.ensures.value
+    (found_same name_found c.args.text.now c.args.rest.now c.split_at.result.0.now c.split_at-2.result.1.now c.args.first c.word_len-more.result c.in_ok-name_found.field-0 c.requires.text c.split_at.ensures.front c.split_at-2.ensures.back c.in_ok-name_found.ensures)

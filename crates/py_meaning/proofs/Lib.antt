@@ -1,4 +1,3 @@
-pub mod Folds
 pub mod Seconds
 pub mod Soundness
 pub mod Keeping

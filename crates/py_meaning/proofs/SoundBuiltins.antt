@@ -32,7 +32,7 @@ use Rattle.py_meaning.specs.Numerals.{integer_spelled}
 use Rattle.py_meaning.specs.Texts.{is_ascii}
 use Rattle.py_meaning.specs.Builtins.{or_type_error, len_row, absolute, abs_row, best_from, best, best_row, is_less_than, is_more_than, add_all, add_all_to, sum_of, sum_row, plain_text, text_or_leaves, text_of_args, text_of_object, text_of_value, str_row, spelled, integer_or_type_error, integer_of, int_row, bool_row, listed, list_row, tupled, tuple_row, dict_of_object, dict_of_value, dict_row, range_of, range_row, call_builtin}
 use Rattle.py_meaning.specs.SoundRuns.{AllFit, Fits, Gives, Holds, OnDone}
-use Rattle.py_meaning.proofs.Folds.{all_sound-out}
+use Rattle.py_meaning.specs.Folds.{all_sound-out}
 use Rattle.py_meaning.proofs.Soundness.{both, first, second, stays_sound, all_weaker}
 use Rattle.py_meaning.proofs.Outcomes.{anything, gives_costs, gives_if, gives_then, gives_aside}
 use Rattle.py_meaning.proofs.SoundKinds.{kind_sound, sound_Str, sound_Int, sound_Bool, sound_None, sound_Tuple}

@@ -9,7 +9,7 @@ use Rattle.py_meaning.specs.declared.value.Value.TheVariants as value
 use Rattle.py_meaning.specs.declared.value.Value.TheVariants.{outs-Tuple}
 use Rattle.py_meaning.specs.Values.{depth, depth_by, deepest}
 use Rattle.py_meaning.specs.Worlds.{sound, all_sound, sound_by, sound_view}
-use Rattle.py_meaning.proofs.Folds.{levels, views, all_sound-out, depth-out}
+use Rattle.py_meaning.specs.Folds.{levels, views, all_sound-out, depth-out}
 use Rattle.py_meaning.proofs.Soundness.{both, first, second}
 
 -- a part of a sound tuple

@@ -24,7 +24,7 @@ use Rattle.py_meaning.specs.Keys.{value_of_key, key_place, key_cost, as_key}
 use Rattle.py_meaning.specs.Operations.{for_key, or_key_error, dict_get, dict_copy, made}
 use Rattle.py_meaning.specs.Sums.{as_value}
 use Rattle.py_meaning.specs.SoundRuns.{AllFit, Fits, Gives, Holds}
-use Rattle.py_meaning.proofs.Folds.{all_sound-out}
+use Rattle.py_meaning.specs.Folds.{all_sound-out}
 use Rattle.py_meaning.proofs.Soundness.{both, first, second, all_weaker, all_got}
 use Rattle.py_meaning.proofs.Keeping.{object_sound, elements_of_sound, pairs_of_sound, made_sound}
 use Rattle.py_meaning.proofs.Outcomes.{gives_costs, gives_if, gives_then}

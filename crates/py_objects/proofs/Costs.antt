@@ -6,7 +6,7 @@ use Rattle.std.proofs.lemmas.Bool.Decides.{nat_tests}
 use Rattle.py_meaning.specs.declared.value.Value.{Value}
 use Rattle.py_meaning.specs.declared.value.Value.TheVariants as value
 use Rattle.py_meaning.specs.Keys.{key_cost}
-use Rattle.py_meaning.proofs.Folds.{key_cost-Tuple}
+use Rattle.py_meaning.specs.Folds.{key_cost-Tuple}
 use Rattle.py_objects.specs.Within.{within}
 
 pub within_none : (n limit : ℕ) → limit < n → None ≡ within n limit

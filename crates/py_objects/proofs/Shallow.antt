@@ -5,7 +5,7 @@ use Rattle.py_meaning.specs.declared.value.Value.{Value}
 use Rattle.py_meaning.specs.declared.value.Value.TheVariants as value
 use Rattle.py_meaning.specs.Values.{depth, deepest, tuple_limit}
 use Rattle.py_meaning.specs.Walk.{counted, characters_of, shallow}
-use Rattle.py_meaning.proofs.Folds.{depth-out, depth-Tuple, views}
+use Rattle.py_meaning.specs.Folds.{depth-out, depth-Tuple, views}
 
 depth-Int : (n : ℤ) → depth (value.Int n) ≡ 0
 depth-Int n = simp (depth-out, views)

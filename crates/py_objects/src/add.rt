@@ -13,7 +13,7 @@ use std::alloc::Global;
 impl Objects {
     /// Integers are added; strings, tuples and lists are joined, lists to a new one, at a step for each element of
     /// the result.
-    #[tactic(auto, using(py_meaning::proofs::Folds::views))]
+    #[tactic(auto, using(py_meaning::specs::Folds::views))]
     pub fn add(&mut self, a: &Value, b: &Value, fuel: &mut Fuel) -> Op<Value>
         ensures meant { UnlessMemory result (changes (add a.now b.now) self.old fuel.old ≡ (result, self.new, fuel.new)) }
         ensures unchanged { UnlessDone result (self.new ≡ self.old) }

@@ -10,7 +10,7 @@ pub(crate) const TUPLE_LIMIT: u32 = 50;
 
 /// Whether a value is no deeper a tuple than a limit.
 #[cycle(depth)]
-#[tactic(auto, using(py_meaning::proofs::Folds::depths, py_meaning::proofs::Folds::views))]
+#[tactic(auto, using(py_meaning::specs::Folds::depths, py_meaning::proofs::Folds::views))]
 pub(crate) fn is_within(value: &Value, limit: u32) -> bool
     ensures { result ≡ nat_le (depth value.now) limit }
 {

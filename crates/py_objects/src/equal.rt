@@ -23,7 +23,7 @@ impl Objects {
 
     /// The same, where so many levels of parts may still be compared.
     #[cycle(equal)]
-    #[tactic(auto, using(py_meaning::proofs::Folds::views))]
+    #[tactic(auto, using(py_meaning::specs::Folds::views))]
     pub(crate) fn equal_within(&self, levels: u8, a: &Value, b: &Value, fuel: &mut Fuel) -> Op<bool>
         ensures { equal_within levels self.now a.now b.now fuel.old ≡ (result, fuel.new) }
     {

@@ -77,7 +77,7 @@ impl Objects {
     }
 
     /// Whether no element of what is walked is a deeper tuple than a limit.
-    #[tactic(auto, using(py_meaning::proofs::Folds::views, crate::proofs::Shallow::plain))]
+    #[tactic(auto, using(py_meaning::specs::Folds::views, crate::proofs::Shallow::plain))]
     fn walked_within(&self, value: &Value, limit: u32) -> bool
         ensures { result ≡ nat_le (deepest (map depth (or_empty (walked self.now value.now)))) limit }
     {

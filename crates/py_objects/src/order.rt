@@ -27,7 +27,7 @@ impl Objects {
 
     /// The same, where so many levels of parts may still be compared.
     #[cycle(order)]
-    #[tactic(auto, using(py_meaning::proofs::Folds::views))]
+    #[tactic(auto, using(py_meaning::specs::Folds::views))]
     fn ordered_within(
         &self,
         levels: u8,

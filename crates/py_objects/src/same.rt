@@ -31,7 +31,7 @@ pub(crate) fn number_of_truth(truth: bool) -> Option<PyInt>
 }
 
 /// The number of an integer or a truth value.
-#[tactic(auto, using(py_meaning::proofs::Folds::views))]
+#[tactic(auto, using(py_meaning::specs::Folds::views))]
 pub fn number(value: &Value) -> Option<PyInt>
     ensures { result ≡ number_of (out-Value value.now) }
 {
@@ -58,7 +58,7 @@ pub(crate) fn is_same_text(a: &[char], b: &[char]) -> bool
 }
 
 /// Whether two values of which not both are tuples are the same: by number, by characters, or by what they name.
-#[tactic(auto, using(py_meaning::proofs::Folds::views))]
+#[tactic(auto, using(py_meaning::specs::Folds::views))]
 pub fn is_same_single(a: &Value, b: &Value) -> bool
     ensures { result ≡ same_single (out-Value a.now) (out-Value b.now) }
 {
@@ -89,7 +89,7 @@ pub fn is_same_single(a: &Value, b: &Value) -> bool
 }
 
 /// Whether a value walks a range or a dict.
-#[tactic(auto, using(py_meaning::proofs::Folds::views))]
+#[tactic(auto, using(py_meaning::specs::Folds::views))]
 pub fn is_view(value: &Value) -> bool
     ensures { result ≡ is_view (out-Value value.now) }
 {

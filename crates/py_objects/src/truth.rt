@@ -9,7 +9,7 @@ use pyn_base::ObjId;
 
 impl Objects {
     /// False are None, False, 0 and everything of length nought.
-    #[tactic(auto, using(py_meaning::proofs::Folds::views))]
+    #[tactic(auto, using(py_meaning::specs::Folds::views))]
     pub fn truth(&self, value: &Value) -> bool
         ensures { result ≡ truth self.now value.now }
     {

@@ -32,7 +32,7 @@ impl Objects {
     }
 
     /// How many elements are walked, where a value is walked at all. What is walked is what has a length.
-    #[tactic(auto, using(py_meaning::proofs::Folds::views))]
+    #[tactic(auto, using(py_meaning::specs::Folds::views))]
     pub fn length(&self, value: &Value) -> Option<u64>
         ensures { result ≡ option_map length (walked self.now value.now) }
     {
@@ -63,7 +63,7 @@ impl Objects {
     }
 
     /// The elements, or none where a value isn't walked.
-    #[tactic(auto, using(py_meaning::proofs::Folds::views))]
+    #[tactic(auto, using(py_meaning::specs::Folds::views))]
     pub(crate) fn walked(&self, value: &Value) -> Result<Vec<Value>, Memory>
         ensures { IfOk result (λ items. items.items ≡ or_empty (walked self.now value.now)) }
     {
@@ -94,7 +94,7 @@ impl Objects {
 }
 
 /// Whether the elements are tuples that the walk itself makes.
-#[tactic(auto, using(py_meaning::proofs::Folds::views))]
+#[tactic(auto, using(py_meaning::specs::Folds::views))]
 pub(crate) fn gives_new_tuples(value: &Value) -> bool
     ensures { result ≡ gives_new_tuples (out-Value value.now) }
 {

@@ -1,6 +1,6 @@
 use Rattle.py_meaning.specs.Less.{ordered}
 use Rattle.py_meaning.specs.Numerals.{integer_spelled}
-use Rattle.py_meaning.proofs.Folds.{levels, views}
+use Rattle.py_meaning.specs.Folds.{levels, views}
 use Rattle.py_meaning.proofs.example_builtins.builtin_examples.Goals as goal
 
 pub returns-clause-length_of_a_dict : goal.returns-clause-length_of_a_dict

@@ -1,7 +1,7 @@
 use Rattle.std.proofs.Common.{refl}
 use Rattle.py_meaning.specs.Equal.{equal}
 use Rattle.py_meaning.specs.Texts.{pieces}
-use Rattle.py_meaning.proofs.Folds.{levels, views}
+use Rattle.py_meaning.specs.Folds.{levels, views}
 use Rattle.py_meaning.proofs.example_methods.method_examples.Goals as goal
 
 pub returns-clause-appended : goal.returns-clause-appended

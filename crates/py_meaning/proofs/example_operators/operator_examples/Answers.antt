@@ -1,5 +1,5 @@
 use Rattle.py_meaning.specs.Equal.{equal}
-use Rattle.py_meaning.proofs.Folds.{views}
+use Rattle.py_meaning.specs.Folds.{views}
 use Rattle.py_meaning.proofs.example_operators.operator_examples.Goals as goal
 
 pub returns-clause-rounded_down : goal.returns-clause-rounded_down

@@ -1,7 +1,7 @@
 use Rattle.std.proofs.Common.{refl}
 use Rattle.py_meaning.specs.Equal.{equal, equal_pair}
 use Rattle.py_meaning.specs.Less.{ordered}
-use Rattle.py_meaning.proofs.Folds.{levels, views}
+use Rattle.py_meaning.specs.Folds.{levels, views}
 use Rattle.py_meaning.proofs.examples.world_examples.Goals as goal
 
 pub returns-clause-deep : goal.returns-clause-deep

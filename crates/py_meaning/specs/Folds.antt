@@ -1,4 +1,4 @@
--- The definitions by folds, one level at a time.
+-- The definitions by folds, one level at a time: lemmas that crates above cite.
 use Rattle.std.proofs.Common.{◌≡◌, ℕ, suc, ◌+◌, Bool, List, map, ◌∙◌, ap}
 use Rattle.std.specs.List.{sum_by}
 use Rattle.std.proofs.lemmas.List.Sums.{sum-map}

@@ -2,10 +2,13 @@ pub mod Seconds
 pub mod Soundness
 pub mod Keeping
 pub mod Outcomes
+pub mod Questions
 pub mod SoundKinds
 pub mod SoundWalks
+pub mod Comparisons
 pub mod SoundSums
 pub mod SoundWrites
 pub mod SoundOperators
 pub mod SoundMethods
 pub mod SoundBuiltins
+pub mod Levels

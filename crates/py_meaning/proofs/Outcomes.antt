@@ -6,10 +6,10 @@ use Rattle.py_meaning.specs.declared.op.Op.TheVariants as op
 use Rattle.py_meaning.specs.declared.value.Value.{Value}
 use Rattle.py_meaning.specs.Steps.{Costing, aside, go_on, done, costs, ◌>>=◌}
 use Rattle.py_meaning.specs.Worlds.{World, sound_world}
-use Rattle.py_meaning.specs.SoundRuns.{OnDone, Gives, Holds, Fits}
+use Rattle.py_meaning.specs.SoundRuns.{Answers, Answering, Gives, Holds, Fits}
 
 module _ {A : Type 0} (P : A → Type 0) where
-  chosen_answer : (b : Bool) (n left : ℕ) (run : Costing A) → Gives P run → OnDone P (if b then run (left - n) else (op.OutOfSteps, left)).0
+  chosen_answer : (b : Bool) (n left : ℕ) (run : Costing A) → Gives P run → Answers P (if b then run (left - n) else (op.OutOfSteps, left)).0
   chosen_answer true n left run k = k (left - n)
   chosen_answer false n left run k = tt
 
@@ -21,25 +21,31 @@ module _ {A : Type 0} (P : A → Type 0) where
   gives_if false x y k l = l
 
 module _ {A B : Type 0} (P : A → Type 0) (Q : B → Type 0) (next : A → Costing B) (k : (a : A) → P a → Gives Q (next a)) where
-  gone_on : (answer : Op A) (left : ℕ) → OnDone P answer → OnDone Q (go_on answer left next).0
+  gone_on : (answer : Op A) (left : ℕ) → Answers P answer → Answers Q (go_on answer left next).0
   gone_on (op.Done a) left p = k a p left
   gone_on (op.Raises class) left p = tt
   gone_on (op.Leaves construct) left p = tt
   gone_on op.OutOfSteps left p = tt
-  gone_on op.Memory left p = tt
+  gone_on op.Memory left p = p
 
   pub gives_then : (run : Costing A) → Gives P run → Gives Q (run >>= next)
   gives_then run h left = gone_on (run left).0 (run left).1 (h left)
 
-any_answer : {A : Type 0} (answer : Op A) → OnDone (λ (a : A). Unit {0}) answer
-any_answer (op.Done a) = tt
-any_answer (op.Raises class) = tt
-any_answer (op.Leaves construct) = tt
-any_answer op.OutOfSteps = tt
-any_answer op.Memory = tt
+module _ {A : Type 0} (P Q : A → Type 0) (f : (a : A) → P a → Q a) where
+  weaker_answer : (answer : Op A) → Answers P answer → Answers Q answer
+  weaker_answer (op.Done a) p = f a p
+  weaker_answer (op.Raises class) p = tt
+  weaker_answer (op.Leaves construct) p = tt
+  weaker_answer op.OutOfSteps p = tt
+  weaker_answer op.Memory p = p
 
-pub anything : {A : Type 0} (run : Costing A) → Gives (λ (a : A). Unit {0}) run
-anything run left = any_answer (run left).0
+  -- a weaker property
+  pub gives_weaker : (run : Costing A) → Gives P run → Gives Q run
+  gives_weaker run k left = weaker_answer (run left).0 (k left)
 
-pub gives_aside : (world : World) (run : Costing Value) → IsTrue (sound_world world) → Gives (Fits world) run → Gives Holds (aside run world)
-gives_aside world run h k = gives_then (Fits world) Holds (λ v. done (v, world)) (λ v p left. (h, p)) run k
+-- A run after a question, of whose answer nothing is used.
+pub gives_asked : {A B : Type 0} (Q : B → Type 0) (run : Costing A) (next : A → Costing B) → Answering run → ((a : A) → Gives Q (next a)) → Gives Q (run >>= next)
+gives_asked Q run next k f = gives_then (λ a. Unit {0}) Q next (λ a _. f a) run k
+
+pub gives_aside : (world : World) (run : Costing Value) → IsTrue (sound_world world) → Gives (Fits world) run → Gives (Holds world) (aside run world)
+gives_aside world run h k = gives_then (Fits world) (Holds world) (λ v. done (v, world)) (λ v p left. ((h, λ w f. f), p)) run k

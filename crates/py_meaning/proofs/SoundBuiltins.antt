@@ -1,88 +1,55 @@
 -- Built-in functions called on sound values: what they give is sound, and so is the world after them.
-use Rattle.std.proofs.Common.{◌≡◌, ℕ, Bool, true, false, not, ◌&&◌, ◌||◌, if◌then◌else◌, nat_le, List, [], ◌∷◌, ◌++◌, refl, ap, ◌∙◌, length, ℤ, Option, Some, None, ◌+◌}
+use Rattle.std.proofs.Common.{◌≡◌, ℕ, Bool, true, false, not, ◌&&◌, if◌then◌else◌, nat_le, List, [], ◌∷◌, refl, length, ℤ, Option, Some, None}
 use Rattle.std.specs.Prelude.{IsTrue, pos, nat_abs}
 use Rattle.std.specs.List.{list_all}
 use Rattle.std.specs.Option.{option_map}
 use Rattle.std.specs.Ordering.{int_eq}
-use Rattle.std.proofs.lemmas.List.{map-append}
-use Rattle.std.proofs.lemmas.List.Folds.{list_all-map}
 use Rattle.pyn_base.specs.Int.{in_range}
-use Rattle.pyn_base.specs.declared.class.BuiltClass.TheVariants.{KeyError, TypeError, ValueError}
+use Rattle.pyn_base.specs.declared.class.BuiltClass.TheVariants.{KeyError, ValueError}
 use Rattle.pyn_base.specs.declared.class.ClassId.TheVariants.{Built}
-use Rattle.pyn_base.specs.declared.construct.Construct.TheVariants.{NonAsciiText, StrOf, TupleDepth, MachineSize, View}
+use Rattle.pyn_base.specs.declared.construct.Construct.TheVariants.{NonAsciiText, StrOf, TupleDepth, MachineSize}
 use Rattle.pyn_base.specs.declared.ids.ObjId.{ObjId}
 use Rattle.py_meaning.specs.declared.builtin.Builtin.{Builtin}
 use Rattle.py_meaning.specs.declared.builtin.Builtin.TheVariants as builtin
 use Rattle.py_meaning.specs.declared.object.Object.TheVariants as object
 use Rattle.py_meaning.specs.declared.object.ObjKind.{ObjKind}
 use Rattle.py_meaning.specs.declared.object.ObjKind.TheVariants as kind
-use Rattle.py_meaning.specs.declared.op.Op.{Op}
-use Rattle.py_meaning.specs.declared.op.Op.TheVariants as op
 use Rattle.py_meaning.specs.declared.value.Value.{Value, Value-F, out-Value}
 use Rattle.py_meaning.specs.declared.value.Value.TheVariants as value
 use Rattle.py_meaning.specs.declared.value.Value.TheVariants.{outs-View, outs-Tuple}
 use Rattle.py_meaning.specs.declared.value.View.TheVariants.{Range}
 use Rattle.py_meaning.specs.Steps.{Costing, aside, costs, done, raises, leaves}
-use Rattle.py_meaning.specs.Values.{number_of, is_view, depth, tuple_limit, same_class}
-use Rattle.py_meaning.specs.Worlds.{World, object_at, elements, sound, all_sound, sound_world, dicts, is_dict, within_machine}
+use Rattle.py_meaning.specs.declared.order.Order.TheVariants.{Less}
+use Rattle.py_meaning.specs.Values.{number_of, same_class}
+use Rattle.py_meaning.specs.Tuples.{depth_over, tuple_limit, tuple}
+use Rattle.py_meaning.specs.Worlds.{World, object_at, sound, sound_world, dicts, within_machine}
 use Rattle.py_meaning.specs.Walk.{walk, walked, gives_new_tuples, shallow, truth}
 use Rattle.py_meaning.specs.Operations.{made, kind_of, args_of, make_dict, dict_copy}
-use Rattle.py_meaning.specs.Sums.{add, add_values, add_refs, add_lists, add_texts, add_tuples, add_numbers, is_list, as_value}
+use Rattle.py_meaning.specs.Sums.{add, as_value}
 use Rattle.py_meaning.specs.Numerals.{integer_spelled}
 use Rattle.py_meaning.specs.Texts.{is_ascii}
 use Rattle.py_meaning.specs.Builtins.{or_type_error, len_row, absolute, abs_row, best_from, best, best_row, is_less_than, is_more_than, add_all, add_all_to, sum_of, sum_row, plain_text, text_or_leaves, text_of_args, text_of_object, text_of_value, str_row, spelled, integer_or_type_error, integer_of, int_row, bool_row, listed, list_row, tupled, tuple_row, dict_of_object, dict_of_value, dict_row, range_of, range_row, call_builtin}
-use Rattle.py_meaning.specs.SoundRuns.{AllFit, Fits, Gives, Holds, OnDone}
-use Rattle.py_meaning.specs.Folds.{all_sound-out}
-use Rattle.py_meaning.proofs.Soundness.{both, first, second, stays_sound, all_weaker}
-use Rattle.py_meaning.proofs.Outcomes.{anything, gives_costs, gives_if, gives_then, gives_aside}
-use Rattle.py_meaning.proofs.SoundKinds.{kind_sound, sound_Str, sound_Int, sound_Bool, sound_None, sound_Tuple}
-use Rattle.py_meaning.proofs.SoundWalks.{MadeSound, made_value, copy_made, Walked, fit_all, walked_fits, made_holds, walk_gives}
+use Rattle.py_meaning.specs.SoundRuns.{AllFit, Answering, Fits, Gives, Holds}
+use Rattle.py_meaning.proofs.Soundness.{both, first, second, all_weaker}
+use Rattle.py_meaning.proofs.Outcomes.{gives_asked, gives_costs, gives_if, gives_then, gives_weaker, gives_aside}
+use Rattle.py_meaning.proofs.Questions.{ordered_answers}
+use Rattle.py_meaning.proofs.SoundKinds.{level_sound, parts_shallow, sound_tuple, sound_Str, sound_Int, sound_Bool, sound_None}
+use Rattle.py_meaning.proofs.SoundWalks.{made_value, copy_made, dict_made, Walked, walked_fits, walk_gives}
 use Rattle.py_meaning.proofs.SoundSums.{new_list_holds, or_range_gives, add_holds}
-
--- A sum's world holds all that the one before it held.
-abbrev Wider : World → Value × World → Type 0
-Wider world made = (v : Value) → Fits world v → Fits made.1 v
-
-two : {A : Type 0} (P Q : A → Type 0) (answer : Op A) → OnDone P answer → OnDone Q answer → OnDone (λ a. P a × Q a) answer
-two P Q (op.Done a) p q = (p, q)
-two P Q (op.Raises class) p q = tt
-two P Q (op.Leaves construct) p q = tt
-two P Q op.OutOfSteps p q = tt
-two P Q op.Memory p q = tt
-
-module _ (world : World) where
-  aside_wider : (run : Costing Value) → Gives (Wider world) (aside run world)
-  aside_wider run = gives_then (λ v. Unit {0}) (Wider world) (λ v. done (v, world)) (λ v k left w f. f) run (anything run)
-
-  made_wider : (items : List Value) → Gives (Wider world) (done (as_value (made (object.List items) world)))
-  made_wider items left v f = ap (λ marks. sound marks v) (map-append is_dict world (object.List items ∷ [])) ∙ stays_sound (dicts world) (false ∷ []) v f
-
-  refs_wider : (i j : ObjId) → Gives (Wider world) (add_refs i j world)
-  refs_wider i j = let xs = elements world i in let ys = elements world j in gives_if (Wider world) (is_list (object_at world i) && is_list (object_at world j)) (add_lists xs ys world) (raises TypeError)
-      (λ _. gives_costs (Wider world) (length xs + length ys) (done (as_value (made (object.List (xs ++ ys)) world))) (made_wider (xs ++ ys))) (λ left. tt)
-
-  values_wider : (a b : Value-F Value) → Gives (Wider world) (add_values a b world)
-  values_wider (Value-F.Str s) (Value-F.Str t) = aside_wider (add_texts s t)
-  values_wider (Value-F.Tuple xs) (Value-F.Tuple ys) = aside_wider (add_tuples xs ys)
-  values_wider (Value-F.Ref i) (Value-F.Ref j) = refs_wider i j
-  values_wider a b = aside_wider (add_numbers (number_of a) (number_of b))
-
-  viewed_wider : (b : Bool) (x y : Value-F Value) → Gives (Wider world) ((if b then (λ w. leaves View) else add_values x y) world)
-  viewed_wider true x y = λ left. tt
-  viewed_wider false x y = values_wider x y
-
-  add_wider : (a b : Value) → Gives (Wider world) (add a b world)
-  add_wider a b = viewed_wider (is_view (out-Value a) || is_view (out-Value b)) (out-Value a) (out-Value b)
 
 all_wider : (world after : World) (items : List Value) → ((v : Value) → Fits world v → Fits after v) → AllFit world items → AllFit after items
 all_wider world after items w f = all_weaker (sound (dicts world)) (sound (dicts after)) w items f
 
-add_all_holds : (total : Value) (items : List Value) (world : World) → IsTrue (sound_world world) → Fits world total → AllFit world items → Gives Holds (add_all total items world)
-add_all_holds total [] world h f g = λ left. (h, f)
+-- What holds after a wider world holds after the first.
+widened : (world : World) (between : World) → ((v : Value) → Fits world v → Fits between v) → (made : Value × World) → Holds between made → Holds world made
+widened world between w made h = ((h.0.0, λ v f. h.0.1 v (w v f)), h.1)
+
+add_all_holds : (total : Value) (items : List Value) (world : World) → IsTrue (sound_world world) → Fits world total → AllFit world items → Gives (Holds world) (add_all total items world)
+add_all_holds total [] world h f g = λ left. ((h, λ v k. k), f)
 add_all_holds total (x ∷ xs) world h f g = let fx = first (sound (dicts world) x) (list_all (sound (dicts world)) xs) g in let fxs = second (sound (dicts world) x) (list_all (sound (dicts world)) xs) g in
-    gives_then (λ made. Holds made × Wider world made) Holds (λ added. add_all added.0 xs added.1)
-    (λ added k. add_all_holds added.0 xs added.1 k.0.0 k.0.1 (all_wider world added.1 xs k.1 fxs)) (add total x world)
-    (λ left. two Holds (Wider world) (add total x world left).0 (add_holds world total x h f fx left) (add_wider world total x left))
+    gives_then (Holds world) (Holds world) (λ added. add_all added.0 xs added.1)
+    (λ added k. gives_weaker (Holds added.1) (Holds world) (widened world added.1 k.0.1) (add_all added.0 xs added.1)
+    (add_all_holds added.0 xs added.1 k.0.0 k.1 (all_wider world added.1 xs k.0.1 fxs))) (add total x world) (add_holds world total x h f fx)
 
 module _ (world : World) (h : IsTrue (sound_world world)) where
   int_fits : (n : ℤ) → Gives (Fits world) (done (value.Int n))
@@ -118,29 +85,28 @@ module _ (world : World) (h : IsTrue (sound_world world)) where
   rest_fit : (x : Value) (xs : List Value) → AllFit world (x ∷ xs) → AllFit world xs
   rest_fit x xs f = second (sound (dicts world) x) (list_all (sound (dicts world)) xs) f
 
-  better_gives : (better : Value → Value → Costing Bool) (b : Value) (xs : List Value) → Fits world b → AllFit world xs → Gives (Fits world) (best_from better b xs)
-  better_gives better b [] f g = λ left. f
-  better_gives better b (x ∷ xs) f g = gives_then (λ yes. Unit {0}) (Fits world) (λ yes. if yes then best_from better x xs else best_from better b xs)
-      (λ yes k. gives_if (Fits world) yes (best_from better x xs) (best_from better b xs) (λ _. better_gives better x xs (head_fits x xs g) (rest_fit x xs g)) (better_gives better b xs f (rest_fit x xs g)))
-      (better x b) (anything (better x b))
+  better_gives : (better : Value → Value → Costing Bool) → ((a b : Value) → Answering (better a b)) → (b : Value) (xs : List Value) → Fits world b → AllFit world xs → Gives (Fits world) (best_from better b xs)
+  better_gives better q b [] f g = λ left. f
+  better_gives better q b (x ∷ xs) f g = gives_asked (Fits world) (better x b) (λ yes. if yes then best_from better x xs else best_from better b xs) (q x b)
+      (λ yes. gives_if (Fits world) yes (best_from better x xs) (best_from better b xs) (λ _. better_gives better q x xs (head_fits x xs g) (rest_fit x xs g)) (better_gives better q b xs f (rest_fit x xs g)))
 
-  best_gives : (better : Value → Value → Costing Bool) (xs : List Value) → AllFit world xs → Gives (Fits world) (best better xs)
-  best_gives better [] f = λ left. tt
-  best_gives better (x ∷ xs) f = better_gives better x xs (head_fits x xs f) (rest_fit x xs f)
+  best_gives : (better : Value → Value → Costing Bool) → ((a b : Value) → Answering (better a b)) → (xs : List Value) → AllFit world xs → Gives (Fits world) (best better xs)
+  best_gives better q [] f = λ left. tt
+  best_gives better q (x ∷ xs) f = better_gives better q x xs (head_fits x xs f) (rest_fit x xs f)
 
-  best_row_gives : (better : Value → Value → Costing Bool) (args : List Value) → AllFit world args → Gives (Fits world) (best_row better args world)
-  best_row_gives better [] f = λ left. tt
-  best_row_gives better (x ∷ []) f = gives_then (AllFit world) (Fits world) (best better) (λ items k. best_gives better items k) (walk world x) (walk_gives world x h (head_fits x [] f))
-  best_row_gives better (x ∷ y ∷ more) f = gives_costs (Fits world) (length (x ∷ y ∷ more)) (best better (x ∷ y ∷ more)) (best_gives better (x ∷ y ∷ more) f)
+  best_row_gives : (better : Value → Value → Costing Bool) → ((a b : Value) → Answering (better a b)) → (args : List Value) → AllFit world args → Gives (Fits world) (best_row better args world)
+  best_row_gives better q [] f = λ left. tt
+  best_row_gives better q (x ∷ []) f = gives_then (AllFit world) (Fits world) (best better) (λ items k. best_gives better q items k) (walk world x) (walk_gives world x h (head_fits x [] f))
+  best_row_gives better q (x ∷ y ∷ more) f = gives_costs (Fits world) (length (x ∷ y ∷ more)) (best better (x ∷ y ∷ more)) (best_gives better q (x ∷ y ∷ more) f)
 
-  add_all_to_holds : (k : Value-F Value) (start : Value) (items : List Value) → Fits world start → AllFit world items → Gives Holds (add_all_to k start items world)
+  add_all_to_holds : (k : Value-F Value) (start : Value) (items : List Value) → Fits world start → AllFit world items → Gives (Holds world) (add_all_to k start items world)
   add_all_to_holds (Value-F.Str s) start items f g = λ left. tt
   add_all_to_holds _ start items f g = add_all_holds start items world h f g
 
-  sum_of_holds : (x start : Value) → Fits world x → Fits world start → Gives Holds (sum_of x start world)
-  sum_of_holds x start f g = gives_then (AllFit world) Holds (λ items. add_all_to (out-Value start) start items world) (λ items k. add_all_to_holds (out-Value start) start items g k) (walk world x) (walk_gives world x h f)
+  sum_of_holds : (x start : Value) → Fits world x → Fits world start → Gives (Holds world) (sum_of x start world)
+  sum_of_holds x start f g = gives_then (AllFit world) (Holds world) (λ items. add_all_to (out-Value start) start items world) (λ items k. add_all_to_holds (out-Value start) start items g k) (walk world x) (walk_gives world x h f)
 
-  sum_holds : (args : List Value) → AllFit world args → Gives Holds (sum_row args world)
+  sum_holds : (args : List Value) → AllFit world args → Gives (Holds world) (sum_row args world)
   sum_holds (x ∷ []) f = sum_of_holds x (value.Int (pos 0)) (head_fits x [] f) (sound_Int (dicts world) (pos 0))
   sum_holds (x ∷ start ∷ []) f = sum_of_holds x start (head_fits x (start ∷ []) f) (head_fits start [] (rest_fit x (start ∷ []) f))
   sum_holds [] f = λ left. tt
@@ -161,7 +127,7 @@ module _ (world : World) (h : IsTrue (sound_world world)) where
   text_of_object_gives _ args = λ left. tt
 
   text_of_value_gives : (k : Value-F Value) → Gives (Fits world) (text_of_value k world)
-  text_of_value_gives (Value-F.Ref id) = text_of_object_gives (kind_of (object_at world id)) (args_of (object_at world id))
+  text_of_value_gives (Value-F.Ref id) = text_of_object_gives (kind_of (object_at world id)) (option_map (λ args. args.parts) (args_of (object_at world id)))
   text_of_value_gives k = text_or_leaves_gives (plain_text k)
 
   str_gives : (args : List Value) → Gives (Fits world) (str_row args world)
@@ -197,7 +163,7 @@ module _ (world : World) (h : IsTrue (sound_world world)) where
 
   range_view : (start stop step : ℤ) → (w : IsTrue (within_machine start && (within_machine stop && within_machine step))) → IsTrue (not (int_eq step (pos 0))) → Fits world (value.View (Range start stop step))
   range_view start stop step w n = let a = within_machine start in let b = within_machine stop in let c = within_machine step in let bc = second a (b && c) w in
-      kind_sound (dicts world) (value.View (Range start stop step)) (rw (outs-View (Range start stop step))
+      level_sound (dicts world) (value.View (Range start stop step)) (rw (outs-View (Range start stop step))
       (both (a && b && c) (not (int_eq step (pos 0))) (both (a && b) c (both a b (first a (b && c) w) (first b c bc)) (second b c bc)) n))
 
   stepped : (zero_step : Bool) (v : Value) → (IsTrue (not zero_step) → Fits world v) → Gives (Fits world) (if zero_step then raises ValueError else done v)
@@ -223,20 +189,17 @@ turned true e = refl
 turned false e = cc
 
 module _ (world : World) (h : IsTrue (sound_world world)) where
-  new_dict_made : Gives MadeSound (make_dict [] world)
-  new_dict_made = gives_costs MadeSound 0 (done (made (object.Dict [] 0) world)) (λ left. made_holds world (object.Dict [] 0) h refl)
-
-  dict_of_object_holds : (k : ObjKind) (id : ObjId) → Gives Holds (dict_of_object k id world)
-  dict_of_object_holds kind.Dict id = made_value (dict_copy id world) (copy_made world id h)
+  dict_of_object_holds : (k : ObjKind) (id : ObjId) → Gives (Holds world) (dict_of_object k id world)
+  dict_of_object_holds kind.Dict id = made_value world (dict_copy id world) (copy_made world id h)
   dict_of_object_holds kind.List id = λ left. tt
   dict_of_object_holds (kind.Instance class) id = λ left. tt
 
-  dict_of_value_holds : (k : Value-F Value) → Gives Holds (dict_of_value k world)
+  dict_of_value_holds : (k : Value-F Value) → Gives (Holds world) (dict_of_value k world)
   dict_of_value_holds (Value-F.Ref id) = dict_of_object_holds (kind_of (object_at world id)) id
   dict_of_value_holds _ = λ left. tt
 
-  dict_holds : (args : List Value) → Gives Holds (dict_row args world)
-  dict_holds [] = made_value (make_dict [] world) new_dict_made
+  dict_holds : (args : List Value) → Gives (Holds world) (dict_row args world)
+  dict_holds [] = made_value world (make_dict [] world) (dict_made world [] h refl)
   dict_holds (x ∷ []) = dict_of_value_holds (out-Value x)
   dict_holds (x ∷ y ∷ more) = λ left. tt
 
@@ -244,40 +207,37 @@ module _ (world : World) (h : IsTrue (sound_world world)) where
   not_deep false items e k = k refl
   not_deep true items e k = turned (shallow items) e
 
-  listed_chosen : (b new : Bool) (items : List Value) → b ≡ (new && not (shallow items)) → Walked (dicts world) new (Some items) → Gives Holds (if b then leaves TupleDepth else costs (length items) (done (as_value (made (object.List items) world))))
+  listed_chosen : (b new : Bool) (items : List Value) → b ≡ (new && not (shallow items)) → Walked (dicts world) new (Some items) → Gives (Holds world) (if b then leaves TupleDepth else costs (length items) (done (as_value (made (object.List items) world))))
   listed_chosen true new items e k = λ left. tt
-  listed_chosen false new items e k = gives_costs Holds (length items) (done (as_value (made (object.List items) world))) (new_list_holds world items h (fit_all (dicts world) items k.0 (not_deep new items e k.1)))
+  listed_chosen false new items e k = gives_costs (Holds world) (length items) (done (as_value (made (object.List items) world))) (new_list_holds world items h (k.0 (not_deep new items e k.1)))
 
-  listed_holds : (made : Bool) (items : Option (List Value)) → Walked (dicts world) made items → Gives Holds (listed made items world)
+  listed_holds : (made : Bool) (items : Option (List Value)) → Walked (dicts world) made items → Gives (Holds world) (listed made items world)
   listed_holds made None k = λ left. tt
   listed_holds made (Some items) k = listed_chosen (made && not (shallow items)) made items refl k
 
-  list_holds : (args : List Value) → AllFit world args → Gives Holds (list_row args world)
+  list_holds : (args : List Value) → AllFit world args → Gives (Holds world) (list_row args world)
   list_holds [] f = new_list_holds world [] h refl
   list_holds (x ∷ []) f = listed_holds (gives_new_tuples (out-Value x)) (walked world x) (walked_fits world x h (head_fits world h x [] f))
   list_holds (x ∷ y ∷ more) f = λ left. tt
 
-  parts_all_sound : (parts : List Value) → IsTrue (list_all (all_sound (dicts world)) parts) → IsTrue (all_sound (dicts world) (value.Tuple parts))
-  parts_all_sound parts k = all_sound-out (dicts world) (value.Tuple parts) ∙ rw (outs-Tuple parts) (list_all-map (λ part. part) (all_sound (dicts world)) parts ∙ k)
-
   tupled_gives : (made : Bool) (items : Option (List Value)) → Walked (dicts world) made items → Gives (Fits world) (tupled items)
   tupled_gives made None k = λ left. tt
-  tupled_gives made (Some parts) k = let shallow_enough = nat_le (depth (value.Tuple parts)) tuple_limit in gives_if (Fits world) shallow_enough (costs (length parts) (done (value.Tuple parts))) (leaves TupleDepth)
-      (λ c. gives_costs (Fits world) (length parts) (done (value.Tuple parts)) (λ left. both (all_sound (dicts world) (value.Tuple parts)) shallow_enough (parts_all_sound parts k.0) c)) (λ left. tt)
+  tupled_gives made (Some parts) k = gives_if (Fits world) (nat_le (depth_over parts) tuple_limit) (costs (length parts) (done (tuple parts))) (leaves TupleDepth)
+      (λ c. gives_costs (Fits world) (length parts) (done (tuple parts)) (λ left. sound_tuple (dicts world) parts (k.0 (parts_shallow parts c)) c)) (λ left. tt)
 
   tuple_gives : (args : List Value) → AllFit world args → Gives (Fits world) (tuple_row args world)
-  tuple_gives [] f = λ left. sound_Tuple (dicts world) [] refl
+  tuple_gives [] f = λ left. sound_tuple (dicts world) [] refl refl
   tuple_gives (x ∷ []) f = tupled_gives (gives_new_tuples (out-Value x)) (walked world x) (walked_fits world x h (head_fits world h x [] f))
   tuple_gives (x ∷ y ∷ more) f = λ left. tt
 
-  aside_fits : (run : Costing Value) → Gives (Fits world) run → Gives Holds (aside run world)
+  aside_fits : (run : Costing Value) → Gives (Fits world) run → Gives (Holds world) (aside run world)
   aside_fits run k = gives_aside world run h k
 
-  pub call_builtin_holds : (id : Builtin) (args : List Value) → AllFit world args → Gives Holds (call_builtin id args world)
+  pub call_builtin_holds : (id : Builtin) (args : List Value) → AllFit world args → Gives (Holds world) (call_builtin id args world)
   call_builtin_holds builtin.Len args f = aside_fits (len_row args world) (len_gives world h args)
   call_builtin_holds builtin.Abs args f = aside_fits (abs_row args) (abs_gives world h args)
-  call_builtin_holds builtin.Min args f = aside_fits (best_row (is_less_than world) args world) (best_row_gives world h (is_less_than world) args f)
-  call_builtin_holds builtin.Max args f = aside_fits (best_row (is_more_than world) args world) (best_row_gives world h (is_more_than world) args f)
+  call_builtin_holds builtin.Min args f = aside_fits (best_row (is_less_than world) args world) (best_row_gives world h (is_less_than world) (λ a b. ordered_answers world Less a b) args f)
+  call_builtin_holds builtin.Max args f = aside_fits (best_row (is_more_than world) args world) (best_row_gives world h (is_more_than world) (λ a b. ordered_answers world Less b a) args f)
   call_builtin_holds builtin.Sum args f = sum_holds world h args f
   call_builtin_holds builtin.Str args f = aside_fits (str_row args world) (str_gives world h args)
   call_builtin_holds builtin.Int args f = aside_fits (int_row args) (int_gives world h args)
@@ -287,5 +247,5 @@ module _ (world : World) (h : IsTrue (sound_world world)) where
   call_builtin_holds builtin.Dict args f = dict_holds args
   call_builtin_holds builtin.Range args f = aside_fits (range_row args) (range_gives world h args)
   call_builtin_holds builtin.Isinstance args f = λ left. tt
-  call_builtin_holds builtin.Print args f = λ left. (h, sound_None (dicts world))
+  call_builtin_holds builtin.Print args f = λ left. ((h, λ v k. k), sound_None (dicts world))
   call_builtin_holds builtin.Object args f = λ left. tt

@@ -9,7 +9,6 @@ use Rattle.pyn_base.specs.declared.construct.Construct.TheVariants as construct
 use Rattle.pyn_base.specs.declared.ids.ObjId.{ObjId}
 use Rattle.py_syntax.specs.declared.operator.BinOp.{BinOp}
 use Rattle.py_syntax.specs.declared.operator.BinOp.TheVariants.{Add, Sub, Mul, FloorDiv, Mod}
-use Rattle.py_meaning.specs.declared.object.Object.{Object}
 use Rattle.py_meaning.specs.declared.object.Object.TheVariants as object
 use Rattle.py_meaning.specs.declared.object.ObjKind.{ObjKind}
 use Rattle.py_meaning.specs.declared.object.ObjKind.TheVariants as kind
@@ -18,20 +17,20 @@ use Rattle.py_meaning.specs.declared.value.Value.TheVariants as value
 use Rattle.py_meaning.specs.declared.value.Value.TheVariants.{outs-Ref}
 use Rattle.py_meaning.specs.Steps.{Costing, Change, aside, done, raises, leaves, answering}
 use Rattle.py_meaning.specs.Values.{number_of, is_view, at_place}
-use Rattle.py_meaning.specs.Worlds.{World, object_at, elements, with_object, sound, sound_world, dicts, is_dict}
+use Rattle.py_meaning.specs.Worlds.{World, object_at, elements, sound, sound_world, dicts}
 use Rattle.py_meaning.specs.Walk.{walk}
-use Rattle.py_meaning.specs.Operations.{made, kind_of, grown, index_place, list_set, list_remove, dict_delete}
+use Rattle.py_meaning.specs.Operations.{made, kind_of, set_elements, index_place, list_set, list_extend_free, list_remove_free, dict_delete}
 use Rattle.py_meaning.specs.Sums.{is_list, as_value}
-use Rattle.py_meaning.specs.Arithmetic.{by_numbers, difference, product, quotient, rest, in_machine, from_zero, repeated_text, repeated_tuple, repeated_list, repeat_ref, multiply_number, multiply_values, rest_of_values}
+use Rattle.py_meaning.specs.Arithmetic.{by_numbers, difference, product, quotient, rest, in_machine, count_or_zero, repeated_text, repeated_tuple, repeated_list, repeat_ref, multiply_number, multiply_values, rest_of_values}
 use Rattle.py_meaning.specs.Operators.{binary, binary_values, augment, augment_at, extend_list, repeat_in_place, repeat_list, list_named}
-use Rattle.py_meaning.specs.Subscripts.{indexed, or_index_error, item_of, item_of_object, get_item, at_number, put_in_object, put_in, put_item, delete_in_object, delete_in, delete_item, bound, bound_place, cut, cut_text, cut_tuple, cut_list, cut_ref, slice_of, slice}
-use Rattle.py_meaning.specs.SoundRuns.{AllFit, Fits, Gives, Holds, WorldSound}
-use Rattle.py_meaning.proofs.Soundness.{all_join, all_take, all_drop, all_got, all_weaker}
-use Rattle.py_meaning.proofs.Outcomes.{anything, gives_costs, gives_if, gives_then, gives_aside}
-use Rattle.py_meaning.proofs.SoundKinds.{SoundKind, part_fits, part_sound, sound_kind, kind_sound, sound_Str, sound_Int}
+use Rattle.py_meaning.specs.Subscripts.{indexed, or_index_error, item_of, item_of_object, get_item, at_number, put_in_object, put_in, put_item, delete_in_list, delete_in_object, delete_in, delete_item, bound, bound_place, cut, cut_text, cut_tuple, cut_list, cut_ref, slice_of, slice}
+use Rattle.py_meaning.specs.SoundRuns.{AllFit, Answering, Fits, Gives, Holds, WorldSound}
+use Rattle.py_meaning.proofs.Soundness.{all_join, all_take, all_drop, all_got}
+use Rattle.py_meaning.proofs.Outcomes.{gives_asked, gives_costs, gives_if, gives_then, gives_aside}
+use Rattle.py_meaning.proofs.SoundKinds.{SoundKind, sound_kind, level_sound, sound_Str, sound_Int}
 use Rattle.py_meaning.proofs.SoundWalks.{elements_fit, walk_gives, dict_get_gives}
-use Rattle.py_meaning.proofs.SoundSums.{in_machine_gives, new_list_holds, text_gives, tuple_gives, or_range_gives, add_values_hold}
-use Rattle.py_meaning.proofs.SoundWrites.{holds_sound, written_holds, grown_holds, list_set_sound, list_remove_holds, dict_put_sound, dict_delete_holds, answering_sound}
+use Rattle.py_meaning.proofs.SoundSums.{in_machine_gives, new_list_holds, text_gives, paid_tuple_gives, or_range_gives, add_values_hold}
+use Rattle.py_meaning.proofs.SoundWrites.{holds_sound, written_holds, extended_holds, other_elements, list_set_sound, list_remove_free_holds, dict_put_sound, dict_delete_holds, answering_sound}
 
 pub all_repeated : {A : Type 0} (p : A → Bool) (n : ℕ) (xs : List A) → IsTrue (list_all p xs) → IsTrue (list_all p (repeat n xs))
 all_repeated p zero xs h = refl
@@ -40,10 +39,13 @@ all_repeated p (suc n) xs h = all_join p xs (repeat n xs) h (all_repeated p n xs
 pub all_cut : {A : Type 0} (p : A → Bool) (low high : Option ℤ) (xs : List A) → IsTrue (list_all p xs) → IsTrue (list_all p (cut low high xs))
 all_cut p low high xs h = all_take p (bound_place high (length xs) (length xs) - bound_place low (length xs) 0) (drop (bound_place low (length xs) 0) xs) (all_drop p (bound_place low (length xs) 0) xs h)
 
-list_keeps : (o : Object) (items : List Value) → IsTrue (is_list o) → is_dict (object.List items) ≡ is_dict o
-list_keeps (object.List xs) items h = refl
-list_keeps (object.Dict ps n) items h = cc
-list_keeps (object.Instance class attributes args) items h = refl
+found_answers : {A : Type 0} (found : Option A) → Answering (or_index_error found)
+found_answers None left = tt
+found_answers (Some x) left = tt
+
+indexed_answers : {A : Type 0} (xs : List A) (n : Option ℤ) → Answering (indexed xs n)
+indexed_answers xs None = λ left. tt
+indexed_answers xs (Some n) = found_answers (at_place xs (index_place n (length xs)))
 
 module _ (world : World) (h : IsTrue (sound_world world)) where
   by_numbers_gives : (f : ℤ → ℤ → Costing Value) → ((a b : ℤ) → Gives (Fits world) (f a b)) → (a b : Option ℤ) → Gives (Fits world) (by_numbers f a b)
@@ -69,32 +71,32 @@ module _ (world : World) (h : IsTrue (sound_world world)) where
   rest_gives : (a b : ℤ) → Gives (Fits world) (rest a b)
   rest_gives a b = divided_gives b _
 
-  aside_holds : (run : Costing Value) → Gives (Fits world) run → Gives Holds (aside run world)
+  aside_holds : (run : Costing Value) → Gives (Fits world) run → Gives (Holds world) (aside run world)
   aside_holds run k = gives_aside world run h k
 
   repeat_text_gives : (s : List ℕ) (n : Option ℤ) → Gives (Fits world) (in_machine n (repeated_text s))
-  repeat_text_gives s n = in_machine_gives (Fits world) n (repeated_text s) (λ z. text_gives world (from_zero z * length s) (repeat (from_zero z) s))
+  repeat_text_gives s n = in_machine_gives (Fits world) n (repeated_text s) (λ z. text_gives world (count_or_zero z * length s) (repeat (count_or_zero z) s))
 
-  repeat_tuple_gives : (parts : List Value) → IsTrue (list_all (part_fits (dicts world)) parts) → (n : Option ℤ) → Gives (Fits world) (in_machine n (repeated_tuple parts))
-  repeat_tuple_gives parts f n = in_machine_gives (Fits world) n (repeated_tuple parts) (λ z. tuple_gives world (from_zero z * length parts) (repeat (from_zero z) parts) (all_repeated (part_fits (dicts world)) (from_zero z) parts f))
+  repeat_tuple_gives : (parts : List Value) → AllFit world parts → (n : Option ℤ) → Gives (Fits world) (in_machine n (repeated_tuple parts))
+  repeat_tuple_gives parts f n = in_machine_gives (Fits world) n (repeated_tuple parts) (λ z. paid_tuple_gives world (count_or_zero z * length parts) (repeat (count_or_zero z) parts) (all_repeated (sound (dicts world)) (count_or_zero z) parts f))
 
-  repeated_list_holds : (items : List Value) → AllFit world items → (z : ℤ) → Gives Holds (repeated_list items world z)
-  repeated_list_holds items f z = gives_costs Holds (from_zero z * length items) (done (as_value (made (object.List (repeat (from_zero z) items)) world)))
-      (new_list_holds world (repeat (from_zero z) items) h (all_repeated (sound (dicts world)) (from_zero z) items f))
+  repeated_list_holds : (items : List Value) → AllFit world items → (z : ℤ) → Gives (Holds world) (repeated_list items world z)
+  repeated_list_holds items f z = gives_costs (Holds world) (count_or_zero z * length items) (done (as_value (made (object.List (repeat (count_or_zero z) items)) world)))
+      (new_list_holds world (repeat (count_or_zero z) items) h (all_repeated (sound (dicts world)) (count_or_zero z) items f))
 
-  repeat_ref_holds : (id : ObjId) (n : Option ℤ) → Gives Holds (repeat_ref id n world)
-  repeat_ref_holds id n = gives_if Holds (is_list (object_at world id)) (in_machine n (repeated_list (elements world id) world)) (raises _)
-      (λ _. in_machine_gives Holds n (repeated_list (elements world id) world) (repeated_list_holds (elements world id) (elements_fit world id h))) (λ left. tt)
+  repeat_ref_holds : (id : ObjId) (n : Option ℤ) → Gives (Holds world) (repeat_ref id n world)
+  repeat_ref_holds id n = gives_if (Holds world) (is_list (object_at world id)) (in_machine n (repeated_list (elements world id) world)) (raises _)
+      (λ _. in_machine_gives (Holds world) n (repeated_list (elements world id) world) (repeated_list_holds (elements world id) (elements_fit world id h))) (λ left. tt)
 
-  multiply_number_holds : (n : Option ℤ) (b : Value-F Value) → SoundKind (dicts world) b → Gives Holds (multiply_number n b world)
+  multiply_number_holds : (n : Option ℤ) (b : Value-F Value) → SoundKind (dicts world) b → Gives (Holds world) (multiply_number n b world)
   multiply_number_holds n (Value-F.Str s) f = aside_holds (in_machine n (repeated_text s)) (repeat_text_gives s n)
-  multiply_number_holds n (Value-F.Tuple parts) f = aside_holds (in_machine n (repeated_tuple parts)) (repeat_tuple_gives parts f n)
+  multiply_number_holds n (Value-F.Tuple t) f = aside_holds (in_machine n (repeated_tuple t.parts)) (repeat_tuple_gives t.parts f n)
   multiply_number_holds n (Value-F.Ref id) f = repeat_ref_holds id n
   multiply_number_holds n b f = aside_holds (by_numbers product n (number_of b)) (by_numbers_gives product product_gives n (number_of b))
 
-  multiply_holds : (a b : Value-F Value) → SoundKind (dicts world) a → SoundKind (dicts world) b → Gives Holds (multiply_values a b world)
+  multiply_holds : (a b : Value-F Value) → SoundKind (dicts world) a → SoundKind (dicts world) b → Gives (Holds world) (multiply_values a b world)
   multiply_holds (Value-F.Str s) b f g = aside_holds (in_machine (number_of b) (repeated_text s)) (repeat_text_gives s (number_of b))
-  multiply_holds (Value-F.Tuple parts) b f g = aside_holds (in_machine (number_of b) (repeated_tuple parts)) (repeat_tuple_gives parts f (number_of b))
+  multiply_holds (Value-F.Tuple t) b f g = aside_holds (in_machine (number_of b) (repeated_tuple t.parts)) (repeat_tuple_gives t.parts f (number_of b))
   multiply_holds (Value-F.Ref id) b f g = repeat_ref_holds id (number_of b)
   multiply_holds a b f g = multiply_number_holds (number_of a) b g
 
@@ -102,38 +104,38 @@ module _ (world : World) (h : IsTrue (sound_world world)) where
   rest_of_gives (Value-F.Str s) b = λ left. tt
   rest_of_gives a b = by_numbers_gives rest rest_gives (number_of a) (number_of b)
 
-  binary_values_hold : (op : BinOp) (a b : Value-F Value) → SoundKind (dicts world) a → SoundKind (dicts world) b → Gives Holds (binary_values op a b world)
+  binary_values_hold : (op : BinOp) (a b : Value-F Value) → SoundKind (dicts world) a → SoundKind (dicts world) b → Gives (Holds world) (binary_values op a b world)
   binary_values_hold Add a b f g = add_values_hold world a b h f g
   binary_values_hold Sub a b f g = aside_holds (by_numbers difference (number_of a) (number_of b)) (by_numbers_gives difference difference_gives (number_of a) (number_of b))
   binary_values_hold Mul a b f g = multiply_holds a b f g
   binary_values_hold FloorDiv a b f g = aside_holds (by_numbers quotient (number_of a) (number_of b)) (by_numbers_gives quotient quotient_gives (number_of a) (number_of b))
   binary_values_hold Mod a b f g = aside_holds (rest_of_values a b) (rest_of_gives a b)
 
-  chosen_holds : (b : Bool) (x y : Change World Value) → Gives Holds (x world) → Gives Holds (y world) → Gives Holds ((if b then x else y) world)
+  chosen_holds : (b : Bool) (x y : Change World Value) → Gives (Holds world) (x world) → Gives (Holds world) (y world) → Gives (Holds world) ((if b then x else y) world)
   chosen_holds true x y k l = k
   chosen_holds false x y k l = l
 
-  pub binary_holds : (op : BinOp) (a b : Value) → Fits world a → Fits world b → Gives Holds (binary op a b world)
+  pub binary_holds : (op : BinOp) (a b : Value) → Fits world a → Fits world b → Gives (Holds world) (binary op a b world)
   binary_holds op a b f g = chosen_holds (is_view (out-Value a) || is_view (out-Value b)) (aside (leaves construct.View)) (binary_values op (out-Value a) (out-Value b)) (λ left. tt)
       (binary_values_hold op (out-Value a) (out-Value b) (sound_kind (dicts world) a f) (sound_kind (dicts world) b g))
 
   -- Augmented assignment. The value that is handed out is the list itself, or the operator's.
 
-  extend_holds : (list : ObjId) (b : Value) → Fits world (value.Ref list) → Fits world b → Gives Holds (extend_list list b world)
-  extend_holds list b f g = gives_then (AllFit world) Holds (λ items. done (value.Ref list, with_object world list (grown items (object_at world list))))
-      (λ items k left. grown_holds world h list items (value.Ref list) k f) (walk world b) (walk_gives world b h g)
+  extend_holds : (list : ObjId) (b : Value) → Fits world (value.Ref list) → Fits world b → Gives (Holds world) (extend_list list b world)
+  extend_holds list b f g = gives_then (AllFit world) (Holds world) (λ items. done (value.Ref list, list_extend_free list items world))
+      (λ items k left. extended_holds world h list items (value.Ref list) k f) (walk world b) (walk_gives world b h g)
 
-  repeat_list_holds : (list : ObjId) (b : Value) → IsTrue (is_list (object_at world list)) → Fits world (value.Ref list) → Gives Holds (repeat_list list b world)
-  repeat_list_holds list b k f = gives_if Holds (is_view (out-Value b)) (leaves construct.View) (in_machine (number_of (out-Value b)) (repeat_in_place list world)) (λ _ left. tt)
-      (in_machine_gives Holds (number_of (out-Value b)) (repeat_in_place list world) (λ z. let items = repeat (from_zero z) (elements world list) in
-      gives_costs Holds (from_zero z * length (elements world list)) (done (value.Ref list, with_object world list (object.List items)))
-      (λ left. written_holds world h list (object.List items) (value.Ref list) (list_keeps (object_at world list) items k, all_repeated (sound (dicts world)) (from_zero z) (elements world list) (elements_fit world list h)) f)))
+  repeat_list_holds : (list : ObjId) (b : Value) → IsTrue (is_list (object_at world list)) → Fits world (value.Ref list) → Gives (Holds world) (repeat_list list b world)
+  repeat_list_holds list b k f = gives_if (Holds world) (is_view (out-Value b)) (leaves construct.View) (in_machine (number_of (out-Value b)) (repeat_in_place list world)) (λ _ left. tt)
+      (in_machine_gives (Holds world) (number_of (out-Value b)) (repeat_in_place list world) (λ z. let items = repeat (count_or_zero z) (elements world list) in
+      gives_costs (Holds world) (count_or_zero z * length (elements world list)) (done (value.Ref list, set_elements list items world))
+      (λ left. written_holds world h list (object.List items) (value.Ref list) (other_elements world list items k (all_repeated (sound (dicts world)) (count_or_zero z) (elements world list) (elements_fit world list h))) f)))
 
   abbrev NamedList : Option ObjId → Type 0
   NamedList None = Unit {0}
   NamedList (Some list) = IsTrue (is_list (object_at world list)) × Fits world (value.Ref list)
 
-  augment_at_holds : (list : Option ObjId) (op : BinOp) (a b : Value) → NamedList list → Fits world a → Fits world b → Gives Holds (augment_at list op a b world)
+  augment_at_holds : (list : Option ObjId) (op : BinOp) (a b : Value) → NamedList list → Fits world a → Fits world b → Gives (Holds world) (augment_at list op a b world)
   augment_at_holds (Some list) Add a b k f g = extend_holds list b k.1 g
   augment_at_holds (Some list) Mul a b k f g = repeat_list_holds list b k.0 k.1
   augment_at_holds (Some list) Sub a b k f g = binary_holds Sub a b f g
@@ -146,18 +148,18 @@ module _ (world : World) (h : IsTrue (sound_world world)) where
   chosen_list false id e f = tt
 
   ref_fits : (id : ObjId) → SoundKind (dicts world) (Value-F.Ref id) → Fits world (value.Ref id)
-  ref_fits id f = kind_sound (dicts world) (value.Ref id) (rw (outs-Ref id) f)
+  ref_fits id f = level_sound (dicts world) (value.Ref id) (rw (outs-Ref id) f)
 
   list_named_fits : (k : Value-F Value) → SoundKind (dicts world) k → NamedList (list_named world k)
   list_named_fits (Value-F.Ref id) f = chosen_list (is_list (object_at world id)) id refl (ref_fits id f)
   list_named_fits _ f = tt
 
-  pub augment_holds : (op : BinOp) (a b : Value) → Fits world a → Fits world b → Gives Holds (augment op a b world)
+  pub augment_holds : (op : BinOp) (a b : Value) → Fits world a → Fits world b → Gives (Holds world) (augment op a b world)
   augment_holds op a b f g = augment_at_holds (list_named world (out-Value a)) op a b (list_named_fits (out-Value a) (sound_kind (dicts world) a f)) f g
 
   -- Subscriptions.
 
-  chosen_sound : {A : Type 0} (b : Bool) (x y : Change World A) → Gives WorldSound (x world) → Gives WorldSound (y world) → Gives WorldSound ((if b then x else y) world)
+  chosen_sound : {A : Type 0} (b : Bool) (x y : Change World A) → Gives (WorldSound world) (x world) → Gives (WorldSound world) (y world) → Gives (WorldSound world) ((if b then x else y) world)
   chosen_sound true x y k l = k
   chosen_sound false x y k l = l
 
@@ -179,8 +181,8 @@ module _ (world : World) (h : IsTrue (sound_world world)) where
   item_of_object_gives id (kind.Instance class) at = λ left. tt
 
   item_of_gives : (k : Value-F Value) (at : Value) → SoundKind (dicts world) k → Gives (Fits world) (item_of k at world)
-  item_of_gives (Value-F.Str s) at f = gives_then (λ c. Unit {0}) (Fits world) (λ c. done (value.Str (c ∷ []))) (λ c k left. sound_Str (dicts world) (c ∷ [])) (indexed s (number_of (out-Value at))) (anything (indexed s (number_of (out-Value at))))
-  item_of_gives (Value-F.Tuple parts) at f = indexed_gives parts (all_weaker (part_fits (dicts world)) (sound (dicts world)) (part_sound (dicts world)) parts f) (number_of (out-Value at))
+  item_of_gives (Value-F.Str s) at f = gives_asked (Fits world) (indexed s (number_of (out-Value at))) (λ c. done (value.Str (c ∷ []))) (indexed_answers s (number_of (out-Value at))) (λ c left. sound_Str (dicts world) (c ∷ []))
+  item_of_gives (Value-F.Tuple t) at f = indexed_gives t.parts f (number_of (out-Value at))
   item_of_gives (Value-F.Ref id) at f = item_of_object_gives id (kind_of (object_at world id)) at
   item_of_gives (Value-F.Class class) at f = λ left. tt
   item_of_gives _ at f = λ left. tt
@@ -188,52 +190,56 @@ module _ (world : World) (h : IsTrue (sound_world world)) where
   pub get_item_gives : (of at : Value) → Fits world of → Gives (Fits world) (get_item of at world)
   get_item_gives of at f = gives_if (Fits world) (is_view (out-Value of) || is_view (out-Value at)) (leaves construct.View) (item_of (out-Value of) at world) (λ _ left. tt) (item_of_gives (out-Value of) at (sound_kind (dicts world) of f))
 
-  at_number_sound : {A : Type 0} (n : Option ℤ) (change : ℤ → Change World A) → ((z : ℤ) → Gives WorldSound (change z world)) → Gives WorldSound (at_number n change world)
+  at_number_sound : {A : Type 0} (n : Option ℤ) (change : ℤ → Change World A) → ((z : ℤ) → Gives (WorldSound world) (change z world)) → Gives (WorldSound world) (at_number n change world)
   at_number_sound None change k = λ left. tt
   at_number_sound (Some n) change k = k n
 
-  put_in_object_sound : (id : ObjId) (kind : ObjKind) (at new : Value) → Fits world at → Fits world new → Gives WorldSound (put_in_object id kind at new world)
+  put_in_object_sound : (id : ObjId) (kind : ObjKind) (at new : Value) → Fits world at → Fits world new → Gives (WorldSound world) (put_in_object id kind at new world)
   put_in_object_sound id kind.List at new f g = at_number_sound (number_of (out-Value at)) (λ n. list_set id n new) (λ n. list_set_sound world h id n new g)
   put_in_object_sound id kind.Dict at new f g = dict_put_sound world h id at new f g
   put_in_object_sound id (kind.Instance class) at new f g = λ left. tt
 
-  put_in_sound : (k : Value-F Value) (at new : Value) → Fits world at → Fits world new → Gives WorldSound (put_in k at new world)
+  put_in_sound : (k : Value-F Value) (at new : Value) → Fits world at → Fits world new → Gives (WorldSound world) (put_in k at new world)
   put_in_sound (Value-F.Ref id) at new f g = put_in_object_sound id (kind_of (object_at world id)) at new f g
   put_in_sound _ at new f g = λ left. tt
 
-  pub put_item_sound : (of at new : Value) → Fits world at → Fits world new → Gives WorldSound (put_item of at new world)
+  pub put_item_sound : (of at new : Value) → Fits world at → Fits world new → Gives (WorldSound world) (put_item of at new world)
   put_item_sound of at new f g = chosen_sound (is_view (out-Value of) || is_view (out-Value at)) (aside (leaves construct.View)) (put_in (out-Value of) at new) (λ left. tt) (put_in_sound (out-Value of) at new f g)
 
-  delete_in_object_sound : (id : ObjId) (kind : ObjKind) (at : Value) → Gives WorldSound (delete_in_object id kind at world)
-  delete_in_object_sound id kind.List at = at_number_sound (number_of (out-Value at)) (λ n. answering (tt {0}) (list_remove id n))
-      (λ n. answering_sound world (tt {0}) (list_remove id n) (holds_sound (list_remove id n world) (list_remove_holds world h id n)))
-  delete_in_object_sound id kind.Dict at = answering_sound world (tt {0}) (dict_delete id at) (holds_sound (dict_delete id at world) (dict_delete_holds world h id at))
+  delete_in_list_sound : (id : ObjId) (at : Value) → Gives (WorldSound world) (delete_in_list id at world)
+  delete_in_list_sound id at = let n = number_of (out-Value at) in let deletion : ℤ → Change World (Unit {0}) = λ z. answering (tt {0}) (list_remove_free id z) in
+      gives_costs (WorldSound world) (length (elements world id)) (at_number n deletion world)
+      (at_number_sound n deletion (λ z. answering_sound world h (tt {0}) (list_remove_free id z) (holds_sound world (list_remove_free id z world) (list_remove_free_holds world h id z))))
+
+  delete_in_object_sound : (id : ObjId) (kind : ObjKind) (at : Value) → Gives (WorldSound world) (delete_in_object id kind at world)
+  delete_in_object_sound id kind.List at = delete_in_list_sound id at
+  delete_in_object_sound id kind.Dict at = answering_sound world h (tt {0}) (dict_delete id at) (holds_sound world (dict_delete id at world) (dict_delete_holds world h id at))
   delete_in_object_sound id (kind.Instance class) at = λ left. tt
 
-  delete_in_sound : (k : Value-F Value) (at : Value) → Gives WorldSound (delete_in k at world)
+  delete_in_sound : (k : Value-F Value) (at : Value) → Gives (WorldSound world) (delete_in k at world)
   delete_in_sound (Value-F.Ref id) at = delete_in_object_sound id (kind_of (object_at world id)) at
   delete_in_sound _ at = λ left. tt
 
-  pub delete_item_sound : (of at : Value) → Gives WorldSound (delete_item of at world)
+  pub delete_item_sound : (of at : Value) → Gives (WorldSound world) (delete_item of at world)
   delete_item_sound of at = chosen_sound (is_view (out-Value of) || is_view (out-Value at)) (aside (leaves construct.View)) (delete_in (out-Value of) at) (λ left. tt) (delete_in_sound (out-Value of) at)
 
   -- Slices.
 
-  cut_list_holds : (items : List Value) → AllFit world items → Gives Holds (cut_list items world)
-  cut_list_holds items f = gives_costs Holds (length items) (done (as_value (made (object.List items) world))) (new_list_holds world items h f)
+  cut_list_holds : (items : List Value) → AllFit world items → Gives (Holds world) (cut_list items world)
+  cut_list_holds items f = gives_costs (Holds world) (length items) (done (as_value (made (object.List items) world))) (new_list_holds world items h f)
 
-  cut_ref_holds : (id : ObjId) (low high : Option ℤ) → Gives Holds (cut_ref id low high world)
-  cut_ref_holds id low high = gives_if Holds (is_list (object_at world id)) (cut_list (cut low high (elements world id)) world) (raises TypeError)
+  cut_ref_holds : (id : ObjId) (low high : Option ℤ) → Gives (Holds world) (cut_ref id low high world)
+  cut_ref_holds id low high = gives_if (Holds world) (is_list (object_at world id)) (cut_list (cut low high (elements world id)) world) (raises TypeError)
       (λ _. cut_list_holds (cut low high (elements world id)) (all_cut (sound (dicts world)) low high (elements world id) (elements_fit world id h))) (λ left. tt)
 
-  slice_of_holds : (k : Value-F Value) (low high : Option (Option ℤ)) → SoundKind (dicts world) k → Gives Holds (slice_of k low high world)
+  slice_of_holds : (k : Value-F Value) (low high : Option (Option ℤ)) → SoundKind (dicts world) k → Gives (Holds world) (slice_of k low high world)
   slice_of_holds (Value-F.Str s) (Some low) (Some high) f = aside_holds (cut_text (cut low high s)) (text_gives world (length (cut low high s)) (cut low high s))
-  slice_of_holds (Value-F.Tuple parts) (Some low) (Some high) f = aside_holds (cut_tuple (cut low high parts)) (tuple_gives world (length (cut low high parts)) (cut low high parts) (all_cut (part_fits (dicts world)) low high parts f))
+  slice_of_holds (Value-F.Tuple t) (Some low) (Some high) f = aside_holds (cut_tuple (cut low high t.parts)) (paid_tuple_gives world (length (cut low high t.parts)) (cut low high t.parts) (all_cut (sound (dicts world)) low high t.parts f))
   slice_of_holds (Value-F.Ref id) (Some low) (Some high) f = cut_ref_holds id low high
   slice_of_holds (Value-F.Class class) low high f = λ left. tt
   slice_of_holds _ _ _ f = λ left. tt
 
-  pub slice_holds : (of low high : Value) → Fits world of → Gives Holds (slice of low high world)
+  pub slice_holds : (of low high : Value) → Fits world of → Gives (Holds world) (slice of low high world)
   slice_holds of low high f = chosen_holds (is_view (out-Value of) || (is_view (out-Value low) || is_view (out-Value high))) (aside (leaves construct.View))
       (slice_of (out-Value of) (bound (out-Value low)) (bound (out-Value high))) (λ left. tt)
       (slice_of_holds (out-Value of) (bound (out-Value low)) (bound (out-Value high)) (sound_kind (dicts world) of f))

@@ -1,16 +1,17 @@
 -- A sound value stays so where objects are added.
 use Rattle.std.proofs.Common.{◌≡◌, ℕ, zero, suc, Bool, true, false, ◌&&◌, List, [], ◌∷◌, ◌++◌, map, refl, sym, ◌∙◌, ap, length, arith, length-append}
-use Rattle.std.specs.Prelude.{slice_index_or, slice_get, slice_set, remove, take, drop, reverse, nat_lt, nat_le, Some, IsTrue}
+use Rattle.std.specs.Prelude.{slice_index_or, slice_get, slice_set, remove, take, drop, reverse, nat_lt, Some, IsTrue}
 use Rattle.std.specs.List.{list_all, insert}
 use Rattle.py_meaning.specs.Lists.{with_second}
-use Rattle.py_meaning.specs.Values.{depth, tuple_limit}
+use Rattle.py_meaning.specs.Tuples.{depth, is_measured}
 use Rattle.std.proofs.lemmas.List.{reverse-append}
 use Rattle.std.proofs.lemmas.Bool.Decides.{nat_tests}
-use Rattle.py_meaning.specs.declared.value.Value.{Value, Value-F, ind-Value, fold-roll-Value, roll-Value}
+use Rattle.py_meaning.specs.declared.value.Value.{Value, Value-F, ind-Value, roll-Value}
 use Rattle.py_meaning.specs.declared.value.Value.TheFolds.{map-Value}
 use Rattle.py_meaning.specs.declared.value.View.{View}
 use Rattle.py_meaning.specs.declared.value.View.TheVariants.{Range, Keys, Values, Items}
-use Rattle.py_meaning.specs.Worlds.{all_sound, sound, sound_by, sound_view}
+use Rattle.py_meaning.specs.Worlds.{sound, sound_by, sound_view}
+use Rattle.py_meaning.specs.Folds.{sound-roll, sound_by-map}
 
 pub both : (a b : Bool) → IsTrue a → IsTrue b → IsTrue (a && b)
 both true b p q = q
@@ -38,45 +39,6 @@ still_view marks more (Range a b c) h = h
 still_view marks more (Keys dict) h = still_marked marks more dict.0 h
 still_view marks more (Values dict) h = still_marked marks more dict.0 h
 still_view marks more (Items dict) h = still_marked marks more dict.0 h
-
-module _ (marks more : List Bool) {E : Type 0} (f g : E → Bool) (grows : (e : E) → IsTrue (f e) → IsTrue (g e)) where
-  still_all : (es : List E) → IsTrue (list_all (λ part. part) (map f es)) → IsTrue (list_all (λ part. part) (map g es))
-  still_all [] h = h
-  still_all (e ∷ es) h = both (g e) (list_all (λ part. part) (map g es)) (grows e (first (f e) (list_all (λ part. part) (map f es)) h)) (still_all es (second (f e) (list_all (λ part. part) (map f es)) h))
-
-  still_by : (k : Value-F E) → IsTrue (sound_by marks (map-Value E Bool f k)) → IsTrue (sound_by (marks ++ more) (map-Value E Bool g k))
-  still_by (Value-F.Tuple es) h = still_all es h
-  still_by (Value-F.Ref id) h = still_there marks more id.0 h
-  still_by (Value-F.View view) h = still_view marks more view h
-  still_by _ h = refl
-
-abbrev Grows : List Bool → List Bool → Value → Type 0
-Grows marks more v = IsTrue (all_sound marks v) → IsTrue (all_sound (marks ++ more) v)
-
-maps : {E : Type 0} (p : E → Value) (f : Value → Bool) (es : List E) → map f (map p es) ≡ map (λ e. f (p e)) es
-maps p f [] = refl
-maps p f (e ∷ es) = ap (λ xs. f (p e) ∷ xs) (maps p f es)
-
-mapped : {E : Type 0} (p : E → Value) (f : Value → Bool) (k : Value-F E) → map-Value Value Bool f (map-Value E Value p k) ≡ map-Value E Bool (λ e. f (p e)) k
-mapped p f (Value-F.Tuple es) = ap Value-F.Tuple (maps p f es)
-mapped p f _ = refl
-
-rolled : (marks : List Bool) (k : Value-F Value) → all_sound marks (roll-Value k) ≡ sound_by marks (map-Value Value Bool (all_sound marks) k)
-unfolding all_sound
-rolled marks k = fold-roll-Value Bool (sound_by marks) k
-
-step : {E : Type 0} (p : E → Value) (marks more : List Bool) (x : Value-F Value) (y : Value-F E) → map-Value E Value p y ≡ x → ((e : E) → Grows marks more (p e)) → Grows marks more (roll-Value x)
-step p marks more x y is grow h =
-    let e1 = ap (map-Value Value Bool (all_sound marks)) (sym is) ∙ mapped p (all_sound marks) y in
-    let e2 = ap (map-Value Value Bool (all_sound (marks ++ more))) (sym is) ∙ mapped p (all_sound (marks ++ more)) y in
-    rolled (marks ++ more) x ∙ ap (sound_by (marks ++ more)) e2
-    ∙ still_by marks more (λ e. all_sound marks (p e)) (λ e. all_sound (marks ++ more) (p e)) grow y (ap (sound_by marks) (sym e1) ∙ sym (rolled marks x) ∙ h)
-
-grows : (marks more : List Bool) (v : Value) → Grows marks more v
-grows marks more = ind-Value (Grows marks more) (λ x y is. step (λ e. e.0) marks more x y is (λ e. e.1))
-
-pub stays_sound : (marks more : List Bool) (v : Value) → IsTrue (sound marks v) → IsTrue (sound (marks ++ more) v)
-stays_sound marks more v h = both (all_sound (marks ++ more) v) (nat_le (depth v) tuple_limit) (grows marks more v (first (all_sound marks v) (nat_le (depth v) tuple_limit) h)) (second (all_sound marks v) (nat_le (depth v) tuple_limit) h)
 
 -- Lists whose items all pass.
 module _ {A : Type 0} (p : A → Bool) where
@@ -120,6 +82,29 @@ module _ {A : Type 0} (p : A → Bool) where
 pub all_weaker : {A : Type 0} (p q : A → Bool) → ((x : A) → IsTrue (p x) → IsTrue (q x)) → (xs : List A) → IsTrue (list_all p xs) → IsTrue (list_all q xs)
 all_weaker p q f [] h = refl
 all_weaker p q f (x ∷ xs) h = both (q x) (list_all q xs) (f x (first (p x) (list_all p xs) h)) (all_weaker p q f xs (second (p x) (list_all p xs) h))
+
+-- A value in a world with more objects.
+
+module _ (marks more : List Bool) {E : Type 0} (f g : E → Bool) (deep : E → ℕ) (grows : (e : E) → IsTrue (f e) → IsTrue (g e)) where
+  still_by : (k : Value-F E) → IsTrue (sound_by f deep marks k) → IsTrue (sound_by g deep (marks ++ more) k)
+  still_by (Value-F.Tuple t) h = let m = is_measured t.depth (map deep t.parts) in
+      both (list_all g t.parts) m (all_weaker f g grows t.parts (first (list_all f t.parts) m h)) (second (list_all f t.parts) m h)
+  still_by (Value-F.Ref id) h = still_there marks more id.0 h
+  still_by (Value-F.View view) h = still_view marks more view h
+  still_by _ h = refl
+
+abbrev Grows : List Bool → List Bool → Value → Type 0
+Grows marks more v = IsTrue (sound marks v) → IsTrue (sound (marks ++ more) v)
+
+at_level : {E : Type 0} (p : E → Value) (marks : List Bool) (x : Value-F Value) (y : Value-F E) → map-Value E Value p y ≡ x → sound marks (roll-Value x) ≡ sound_by (λ e. sound marks (p e)) (λ e. depth (p e)) marks y
+at_level p marks x y is = sound-roll marks x ∙ ap (sound_by (sound marks) depth marks) (sym is) ∙ sound_by-map p (sound marks) depth marks y
+
+step : {E : Type 0} (p : E → Value) (marks more : List Bool) (x : Value-F Value) (y : Value-F E) → map-Value E Value p y ≡ x → ((e : E) → Grows marks more (p e)) → Grows marks more (roll-Value x)
+step p marks more x y is grow h = at_level p (marks ++ more) x y is
+    ∙ still_by marks more (λ e. sound marks (p e)) (λ e. sound (marks ++ more) (p e)) (λ e. depth (p e)) grow y (sym (at_level p marks x y is) ∙ h)
+
+pub stays_sound : (marks more : List Bool) (v : Value) → Grows marks more v
+stays_sound marks more = ind-Value (Grows marks more) (λ x y is. step (λ e. e.0) marks more x y is (λ e. e.1))
 
 -- another second part
 pub all_second : {A B : Type 0} (p : A → Bool) (q : B → Bool) (xs : List (A × B)) (at : ℕ) (b : B) → IsTrue (list_all (λ pair. p pair.0 && q pair.1) xs) → IsTrue (q b) → IsTrue (list_all (λ pair. p pair.0 && q pair.1) (with_second xs at b))

@@ -13,6 +13,7 @@ use Rattle.py_meaning.specs.declared.value.Value.{Value, Value-F, out-Value}
 use Rattle.py_meaning.specs.declared.value.Value.TheVariants as value
 use Rattle.py_meaning.specs.Steps.{Costing, Change, aside, done, raises, leaves, costs}
 use Rattle.py_meaning.specs.Values.{number_of, is_view}
+use Rattle.py_meaning.specs.Tuples.{new_tuple}
 use Rattle.py_meaning.specs.Worlds.{World, object_at, elements, within_machine}
 use Rattle.py_meaning.specs.Operations.{made}
 use Rattle.py_meaning.specs.Sums.{is_list, as_value, or_range}
@@ -42,20 +43,20 @@ in_machine None next = raises TypeError
 in_machine (Some n) next = if within_machine n then next n else leaves construct.MachineSize
 
 -- A count below 0 counts as 0.
-abbrev pub from_zero : ℤ → ℕ
-from_zero (pos n) = n
-from_zero (negsuc n) = 0
+abbrev pub count_or_zero : ℤ → ℕ
+count_or_zero (pos n) = n
+count_or_zero (negsuc n) = 0
 
 -- Repetition, at a step for each element of the result.
 abbrev pub repeated_text : List ℕ → ℤ → Costing Value
-repeated_text s n = costs (from_zero n * length s) (done (value.Str (repeat (from_zero n) s)))
+repeated_text s n = costs (count_or_zero n * length s) (done (value.Str (repeat (count_or_zero n) s)))
 
 abbrev pub repeated_tuple : List Value → ℤ → Costing Value
-repeated_tuple xs n = costs (from_zero n * length xs) (done (value.Tuple (repeat (from_zero n) xs)))
+repeated_tuple xs n = costs (count_or_zero n * length xs) (new_tuple (repeat (count_or_zero n) xs))
 
 -- a new list
 abbrev pub repeated_list : List Value → World → ℤ → Costing (Value × World)
-repeated_list xs world n = costs (from_zero n * length xs) (done (as_value (made (object.List (repeat (from_zero n) xs)) world)))
+repeated_list xs world n = costs (count_or_zero n * length xs) (done (as_value (made (object.List (repeat (count_or_zero n) xs)) world)))
 
 abbrev pub repeat_ref : ObjId → Option ℤ → Change World Value
 repeat_ref id count world = if is_list (object_at world id) then in_machine count (repeated_list (elements world id) world) else raises TypeError
@@ -63,14 +64,14 @@ repeat_ref id count world = if is_list (object_at world id) then in_machine coun
 -- a count before a sequence, or two numbers
 abbrev pub multiply_number : Option ℤ → Value-F Value → Change World Value
 multiply_number n (Value-F.Str s) = aside (in_machine n (repeated_text s))
-multiply_number n (Value-F.Tuple xs) = aside (in_machine n (repeated_tuple xs))
+multiply_number n (Value-F.Tuple tuple) = aside (in_machine n (repeated_tuple tuple.parts))
 multiply_number n (Value-F.Ref id) = repeat_ref id n
 multiply_number n b = aside (by_numbers product n (number_of b))
 
 -- A sequence and a count in either order, or two numbers.
 abbrev pub multiply_values : Value-F Value → Value-F Value → Change World Value
 multiply_values (Value-F.Str s) b = aside (in_machine (number_of b) (repeated_text s))
-multiply_values (Value-F.Tuple xs) b = aside (in_machine (number_of b) (repeated_tuple xs))
+multiply_values (Value-F.Tuple tuple) b = aside (in_machine (number_of b) (repeated_tuple tuple.parts))
 multiply_values (Value-F.Ref id) b = repeat_ref id (number_of b)
 multiply_values a b = multiply_number (number_of a) b
 

@@ -18,7 +18,8 @@ use Rattle.py_meaning.specs.declared.value.Value.{Value, Value-F, out-Value}
 use Rattle.py_meaning.specs.declared.value.Value.TheVariants as value
 use Rattle.py_meaning.specs.declared.value.View.TheVariants.{Range}
 use Rattle.py_meaning.specs.Steps.{Costing, Change, aside, done, raises, leaves, costs, ◌>>=◌}
-use Rattle.py_meaning.specs.Values.{number_of, depth, tuple_limit, same_class}
+use Rattle.py_meaning.specs.Values.{number_of, same_class}
+use Rattle.py_meaning.specs.Tuples.{depth_over, tuple_limit, tuple}
 use Rattle.py_meaning.specs.Worlds.{World, object_at, within_machine}
 use Rattle.py_meaning.specs.Operations.{made, kind_of, args_of, make_dict, dict_copy}
 use Rattle.py_meaning.specs.Walk.{truth, walked, walk, gives_new_tuples, shallow}
@@ -110,7 +111,7 @@ text_of_object (kind.Instance (Built class)) args = if same_class (Built class) 
 text_of_object _ args = leaves construct.StrOf
 
 abbrev pub text_of_value : Value-F Value → World → Costing Value
-text_of_value (Value-F.Ref id) world = text_of_object (kind_of (object_at world id)) (args_of (object_at world id))
+text_of_value (Value-F.Ref id) world = text_of_object (kind_of (object_at world id)) (option_map (λ args. args.parts) (args_of (object_at world id)))
 text_of_value v world = text_or_leaves (plain_text v)
 
 abbrev pub str_row : List Value → World → Costing Value
@@ -161,14 +162,14 @@ list_row _ world = raises TypeError
 
 -- A tuple of these parts, unless it is too deep.
 abbrev pub tuple_of_parts : List Value → Costing Value
-tuple_of_parts parts = if nat_le (depth (value.Tuple parts)) tuple_limit then costs (length parts) (done (value.Tuple parts)) else leaves construct.TupleDepth
+tuple_of_parts parts = if nat_le (depth_over parts) tuple_limit then costs (length parts) (done (tuple parts)) else leaves construct.TupleDepth
 
 abbrev pub tupled : Option (List Value) → Costing Value
 tupled None = raises TypeError
 tupled (Some parts) = tuple_of_parts parts
 
 abbrev pub tuple_row : List Value → World → Costing Value
-tuple_row [] world = done (value.Tuple [])
+tuple_row [] world = done (tuple [])
 tuple_row (x ∷ []) world = tupled (walked world x)
 tuple_row _ world = raises TypeError
 

@@ -12,8 +12,8 @@ use Rattle.py_meaning.specs.declared.value.Value.TheVariants as value
 use Rattle.py_meaning.specs.declared.value.View.TheVariants.{Keys, Values, Items}
 use Rattle.py_meaning.specs.Steps.{Costing, Change, aside, done, raises, costs, ◌>>=◌}
 use Rattle.py_meaning.specs.Caught.{read_as, where_missing}
-use Rattle.py_meaning.specs.Worlds.{World, Pairs, object_at, pairs, with_object}
-use Rattle.py_meaning.specs.Operations.{dict_get, dict_delete, dict_copy, put_pair, clear}
+use Rattle.py_meaning.specs.Worlds.{World, Pairs, pairs}
+use Rattle.py_meaning.specs.Operations.{dict_get, dict_delete, dict_copy, dict_put_free, clear}
 use Rattle.py_meaning.specs.Sums.{as_value}
 
 -- the value of a key, or another
@@ -30,14 +30,14 @@ with_value world op.Memory = op.Memory
 
 -- The value of a key; under a missing one another is put, at no further cost.
 abbrev pub set_default : ObjId → Value → Value → Change World Value
-set_default dict key other world = read_as (λ answer. where_missing (other, with_object world dict (put_pair key other (object_at world dict))) (with_value world answer)) (dict_get dict key world)
+set_default dict key other world = read_as (λ answer. where_missing (other, dict_put_free dict key other world) (with_value world answer)) (dict_get dict key world)
 
 -- What isn't hashable is a missing key to an empty dict of Python's, which isn't looked up in.
 abbrev pub unhashable_leaves : {A : Type 0} → Pairs → Op A → Op A
 unhashable_leaves [] (op.Raises TypeError) = op.Leaves construct.UnhashableKey
 unhashable_leaves _ answer = answer
 
--- takes a key's pair out and gives its value
+-- removes a key's pair and gives its value
 abbrev pub pop_key : ObjId → Value → Change World Value
 pop_key dict key world = read_as (unhashable_leaves (pairs world dict)) (dict_delete dict key world)
 

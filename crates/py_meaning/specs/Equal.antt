@@ -24,7 +24,7 @@ abbrev pub equal_to_found : (Value → Value → Costing Bool) → Option Value 
 equal_to_found equal None y = done false
 equal_to_found equal (Some x) y = equal x y
 
--- One step, the key's cost and the values' cost. The left dict's value stands at the left.
+-- One step, the key's cost and the values' cost. The left dict's value is the left operand.
 unfoldable pub equal_pair : (Value → Value → Costing Bool) → Pairs → Value × Value → Costing Bool
 equal_pair equal left pair = costs (1 + key_cost pair.0) (equal_to_found equal (value_of_key pair.0 left) pair.1)
 
@@ -51,7 +51,7 @@ equal_refs world parts i j = if i.0 == j.0 then done true else equal_objects par
 
 abbrev pub equal_by : World → Parts → Value-F Value → Value-F Value → Costing Bool
 equal_by world parts (Value-F.Str s) (Value-F.Str t) = equal_texts s t
-equal_by world parts (Value-F.Tuple xs) (Value-F.Tuple ys) = of_one_length parts.sequences xs ys
+equal_by world parts (Value-F.Tuple s) (Value-F.Tuple t) = of_one_length parts.sequences s.parts t.parts
 equal_by world parts (Value-F.Ref i) (Value-F.Ref j) = equal_refs world parts i j
 equal_by world parts (Value-F.View x) (Value-F.View y) = leaves construct.View
 equal_by world parts a b = done (same_single a b)
@@ -70,7 +70,7 @@ parts_within (suc levels) world = parts_by (λ a b. equal_by world (parts_within
 abbrev pub equal_within : ℕ → World → Value → Value → Costing Bool
 equal_within levels world a b = equal_by world (parts_within levels world) (out-Value a) (out-Value b)
 
--- The operands stand at level 1. Parts at level 51 aren't compared.
+-- The operands are at level 1. Parts at level 51 aren't compared.
 abbrev pub comparison_limit : ℕ
 comparison_limit = 50
 

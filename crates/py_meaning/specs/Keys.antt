@@ -15,7 +15,7 @@ use Rattle.py_meaning.specs.Worlds.{World, Pairs, object_at}
 -- A key costs 1 step; a string adds its length, a tuple its parts' costs.
 abbrev pub key_cost_by : Value-F ℕ → ℕ
 key_cost_by (Value-F.Str s) = 1 + length s
-key_cost_by (Value-F.Tuple parts) = 1 + sum parts
+key_cost_by (Value-F.Tuple tuple) = 1 + sum tuple.parts
 key_cost_by _ = 1
 
 unfoldable pub key_cost : Value → ℕ
@@ -37,7 +37,7 @@ object_as_key (object.Dict pairs changes) = op.Raises TypeError
 object_as_key (object.Instance class attributes args) = op.Done tt
 
 abbrev pub as_key_by : World → Value-F (Op (Unit {0})) → Op (Unit {0})
-as_key_by world (Value-F.Tuple parts) = all_keys parts
+as_key_by world (Value-F.Tuple tuple) = all_keys tuple.parts
 as_key_by world (Value-F.Ref id) = object_as_key (object_at world id)
 as_key_by world (Value-F.View view) = op.Leaves construct.View
 as_key_by world _ = op.Done tt
@@ -53,7 +53,7 @@ all_agree (test ∷ tests) (part ∷ parts) = test part && all_agree tests parts
 all_agree _ _ = false
 
 abbrev pub same_key_by : Value-F (Value → Bool) → Value-F Value → Bool
-same_key_by (Value-F.Tuple tests) (Value-F.Tuple parts) = all_agree tests parts
+same_key_by (Value-F.Tuple tests) (Value-F.Tuple tuple) = all_agree tests.parts tuple.parts
 same_key_by a b = same_single a b
 
 -- Whether two keys are the same, so True is 1. This has no level and costs nothing beside the key's cost.

@@ -46,7 +46,7 @@ ordered_refs world parts i j = ordered_objects parts (object_at world i) (object
 -- other kinds raise
 abbrev pub ordered_values : World → Order → (List Value → List Value → Costing Bool) → Value-F Value → Value-F Value → Costing Bool
 ordered_values world order parts (Value-F.Str s) (Value-F.Str t) = ordered_texts order s t
-ordered_values world order parts (Value-F.Tuple xs) (Value-F.Tuple ys) = parts xs ys
+ordered_values world order parts (Value-F.Tuple s) (Value-F.Tuple t) = parts s.parts t.parts
 ordered_values world order parts (Value-F.Ref i) (Value-F.Ref j) = ordered_refs world parts i j
 ordered_values world order parts a b = ordered_numbers order (number_of a) (number_of b)
 

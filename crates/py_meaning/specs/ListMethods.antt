@@ -9,8 +9,8 @@ use Rattle.py_meaning.specs.declared.value.Value.{Value, out-Value}
 use Rattle.py_meaning.specs.declared.value.Value.TheVariants as value
 use Rattle.py_meaning.specs.Steps.{Costing, Change, aside, answering, done, raises, leaves, costs, ◌>>=◌}
 use Rattle.py_meaning.specs.Values.{number_of}
-use Rattle.py_meaning.specs.Worlds.{World, object_at, elements, with_object}
-use Rattle.py_meaning.specs.Operations.{list_extend, list_pop, list_take, list_reverse, make_list, clear, inserted, grown}
+use Rattle.py_meaning.specs.Worlds.{World, elements}
+use Rattle.py_meaning.specs.Operations.{list_extend, list_extend_free, list_pop, list_insert_free, list_remove_free, list_reverse, make_list, clear}
 use Rattle.py_meaning.specs.Walk.{walk}
 use Rattle.py_meaning.specs.Equal.{equal}
 use Rattle.py_meaning.specs.Sums.{as_value}
@@ -22,21 +22,21 @@ giving_none change = answering value.None change
 
 -- the item of an index, at a step for each item
 abbrev pub pop_at : ObjId → Value → Change World Value
-pop_at list at world = costs (length (elements world list)) (in_machine (number_of (out-Value at)) (λ n. list_take list n world))
+pop_at list at world = costs (length (elements world list)) (in_machine (number_of (out-Value at)) (λ n. list_remove_free list n world))
 
 abbrev pub insert_at : ObjId → Value → Value → Change World Value
 insert_at list at new world = costs (length (elements world list) + 1)
-    (in_machine (number_of (out-Value at)) (λ n. done (value.None, with_object world list (inserted n new (object_at world list)))))
+    (in_machine (number_of (out-Value at)) (λ n. done (value.None, list_insert_free list n new world)))
 
 -- grows by what is walked, which is taken first
 abbrev pub extend_by : ObjId → Value → Change World Value
-extend_by list x world = walk world x >>= (λ items. done (value.None, with_object world list (grown items (object_at world list))))
+extend_by list x world = walk world x >>= (λ items. done (value.None, list_extend_free list items world))
 
 abbrev pub removed : ObjId → Option ℕ → Change World Value
 removed list None world = raises ValueError
-removed list (Some at) world = answering value.None (list_take list (pos at)) world
+removed list (Some at) world = answering value.None (list_remove_free list (pos at)) world
 
--- The first equal one is taken out. Two steps for each item come before the comparisons, whatever they find.
+-- The first equal one is removed. Two steps for each item come before the comparisons, whatever they find.
 abbrev pub remove_equal : ObjId → Value → Change World Value
 remove_equal list x world = costs (2 * length (elements world list)) (equal_place 0 world x 0 (elements world list) >>= (λ place. removed list place world))
 
@@ -48,10 +48,10 @@ or_value_error (Some at) = done (value.Int (pos at))
 abbrev pub index_equal : ObjId → Value → World → Costing Value
 index_equal list x world = equal_place 1 world x 0 (elements world list) >>= or_value_error
 
--- how many are equal
+-- how many are equal, each the left operand
 abbrev pub equals_from : World → Value → ℕ → List Value → Costing Value
 equals_from world x count [] = done (value.Int (pos count))
-equals_from world x count (y ∷ ys) = equal world x y >>= (λ same. equals_from world x (if same then suc count else count) ys)
+equals_from world x count (y ∷ ys) = equal world y x >>= (λ same. equals_from world x (if same then suc count else count) ys)
 
 abbrev pub count_equal : ObjId → Value → World → Costing Value
 count_equal list x world = costs (length (elements world list)) (equals_from world x 0 (elements world list))

@@ -34,11 +34,11 @@ identical (Value-F.Bool a) _ = done false
 identical (Value-F.Int a) _ = done false
 identical a b = done (same_single a b)
 
--- The place of the first element that is equal to an item, from a place on. The item is the left operand, and each element that is
--- looked at costs so many steps beside the comparison.
+-- The place of the first element that is equal to an item, from a place on. The element is the left operand, and each that is looked
+-- at costs so many steps beside the comparison.
 abbrev pub equal_place : ℕ → World → Value → ℕ → List Value → Costing (Option ℕ)
 equal_place each world item at [] = done None
-equal_place each world item at (x ∷ xs) = costs each (equal world item x >>= (λ same. if same then done (Some at) else equal_place each world item (suc at) xs))
+equal_place each world item at (x ∷ xs) = costs each (equal world x item >>= (λ same. if same then done (Some at) else equal_place each world item (suc at) xs))
 
 -- A step for each element up to the first that is the same or equal.
 abbrev pub any_equal : World → Value → List Value → Costing Bool
@@ -57,7 +57,7 @@ abbrev pub in_counted : ℤ → ℤ → ℤ → Option ℤ → Costing Bool
 in_counted start stop step None = done false
 in_counted start stop step (Some n) = done (is_counted start stop step n)
 
--- whether a text stands in another
+-- whether a text is in another
 abbrev pub in_text : Value-F Value → List ℕ → Costing Bool
 in_text (Value-F.Str part) text = costs (length text + length part) (done (is_some (first_place part text)))
 in_text _ text = raises TypeError
@@ -69,7 +69,7 @@ in_object item id (kind.Instance class) world = raises TypeError
 
 abbrev pub in_values : Value → Value-F Value → World → Costing Bool
 in_values item (Value-F.Str text) world = in_text (out-Value item) text
-in_values item (Value-F.Tuple parts) world = any_equal world item parts
+in_values item (Value-F.Tuple tuple) world = any_equal world item tuple.parts
 in_values item (Value-F.Ref id) world = in_object item id (kind_of (object_at world id)) world
 in_values item (Value-F.View (Range start stop step)) world = in_counted start stop step (number_of (out-Value item))
 in_values item (Value-F.View (Keys dict)) world = is_key_of dict item world

@@ -5,6 +5,7 @@ use Rattle.std.specs.Option.{option_map}
 use Rattle.pyn_base.specs.declared.class.BuiltClass.TheVariants.{IndexError, KeyError}
 use Rattle.pyn_base.specs.declared.class.ClassId.{ClassId}
 use Rattle.pyn_base.specs.declared.ids.ObjId.{ObjId}
+use Rattle.py_meaning.specs.declared.measured.Measured.{Measured}
 use Rattle.py_meaning.specs.declared.object.Object.{Object}
 use Rattle.py_meaning.specs.declared.object.Object.TheVariants as object
 use Rattle.py_meaning.specs.declared.object.ObjKind.{ObjKind}
@@ -42,7 +43,7 @@ abbrev pub key_changes_of : Object → ℕ
 key_changes_of (object.Dict pairs changes) = changes
 key_changes_of _ = 0
 
-abbrev pub args_of : Object → Option (List Value)
+abbrev pub args_of : Object → Option (Measured Value)
 args_of (object.Instance class attributes args) = args
 args_of _ = None
 
@@ -72,10 +73,6 @@ abbrev pub set_item : ℤ → Value → Change Object (Unit {0})
 set_item at new (object.List items) = set_at new items (index_place at (length items))
 set_item at new other = raises IndexError
 
-abbrev pub insert_item : ℤ → Value → Change Object (Unit {0})
-insert_item at new (object.List items) = costs (length items + 1) (done (tt, object.List (insert items (insert_place at (length items)) new)))
-insert_item at new other = done (tt, other)
-
 abbrev pub taken_at : List Value → ℕ → Option Value → Costing (Value × Object)
 taken_at items at None = raises IndexError
 taken_at items at (Some item) = done (item, object.List (remove items at))
@@ -85,18 +82,8 @@ remove_at items None = raises IndexError
 remove_at items (Some at) = taken_at items at (slice_get items at)
 
 abbrev pub remove_item : ℤ → Change Object Value
-remove_item at (object.List items) = costs (length items) (remove_at items (index_place at (length items)))
+remove_item at (object.List items) = remove_at items (index_place at (length items))
 remove_item at other = raises IndexError
-
--- the last item
-abbrev pub pop_item : Change Object Value
-pop_item (object.List items) = costs 1 (remove_at items (index_place (negsuc 0) (length items)))
-pop_item other = raises IndexError
-
--- the item of an index, at no cost of its own
-abbrev pub take_item : ℤ → Change Object Value
-take_item at (object.List items) = remove_at items (index_place at (length items))
-take_item at other = raises IndexError
 
 abbrev pub inserted : ℤ → Value → Object → Object
 inserted at new (object.List items) = object.List (insert items (insert_place at (length items)) new)
@@ -107,34 +94,43 @@ abbrev pub grown : List Value → Object → Object
 grown more (object.List items) = object.List (items ++ more)
 grown more other = other
 
-abbrev pub reverse_items : Change Object (Unit {0})
-reverse_items (object.List items) = costs (length items) (done (tt, object.List (reverse items)))
-reverse_items other = done (tt, other)
-
-abbrev pub extend_items : List Value → Change Object (Unit {0})
-extend_items more (object.List items) = costs (length more) (done (tt, object.List (items ++ more)))
-extend_items more other = done (tt, other)
+abbrev pub turned : Object → Object
+turned (object.List items) = object.List (reverse items)
+turned other = other
 
 abbrev pub list_set : ObjId → ℤ → Value → Change World (Unit {0})
 list_set list at new = on_object list (set_item at new)
 
+-- A write that costs nothing, for a caller that has paid; and the same at its cost.
+
+abbrev pub list_insert_free : ObjId → ℤ → Value → World → World
+list_insert_free list at new world = with_object world list (inserted at new (object_at world list))
+
 abbrev pub list_insert : ObjId → ℤ → Value → Change World (Unit {0})
-list_insert list at new = on_object list (insert_item at new)
+list_insert list at new world = costs (length (elements world list) + 1) (done (tt, list_insert_free list at new world))
 
-abbrev pub list_remove : ObjId → ℤ → Change World Value
-list_remove list at = on_object list (remove_item at)
-
-abbrev pub list_pop : ObjId → Change World Value
-list_pop list = on_object list pop_item
-
-abbrev pub list_take : ObjId → ℤ → Change World Value
-list_take list at = on_object list (take_item at)
-
-abbrev pub list_reverse : ObjId → Change World (Unit {0})
-list_reverse list = on_object list reverse_items
+abbrev pub list_extend_free : ObjId → List Value → World → World
+list_extend_free list more world = with_object world list (grown more (object_at world list))
 
 abbrev pub list_extend : ObjId → List Value → Change World (Unit {0})
-list_extend list more = on_object list (extend_items more)
+list_extend list more world = costs (length more) (done (tt, list_extend_free list more world))
+
+abbrev pub list_remove_free : ObjId → ℤ → Change World Value
+list_remove_free list at = on_object list (remove_item at)
+
+abbrev pub list_remove : ObjId → ℤ → Change World Value
+list_remove list at world = costs (length (elements world list)) (list_remove_free list at world)
+
+-- the last item
+abbrev pub list_pop : ObjId → Change World Value
+list_pop list world = costs 1 (list_remove_free list (negsuc 0) world)
+
+abbrev pub list_reverse : ObjId → Change World (Unit {0})
+list_reverse list world = costs (length (elements world list)) (done (tt, with_object world list (turned (object_at world list))))
+
+-- a list with other items
+abbrev pub set_elements : ObjId → List Value → World → World
+set_elements list items world = with_object world list (object.List items)
 
 -- Dicts (the manual, "Mapping Types"). A key's cost comes first, also where it is no key.
 
@@ -162,9 +158,12 @@ abbrev pub put_pair : Value → Value → Object → Object
 put_pair key value (object.Dict pairs changes) = put_at key value pairs changes (key_place key pairs)
 put_pair key value other = other
 
+-- under what is a key
+abbrev pub dict_put_free : ObjId → Value → Value → World → World
+dict_put_free dict key new world = with_object world dict (put_pair key new (object_at world dict))
+
 abbrev pub dict_put : ObjId → Value → Value → Change World (Unit {0})
-dict_put dict key new world = costs (key_cost key) (for_key (as_key world key)
-    (on_object dict (λ held. done (tt, put_pair key new held)) world))
+dict_put dict key new world = costs (key_cost key) (for_key (as_key world key) (done (tt, dict_put_free dict key new world)))
 
 abbrev pub taken_pair : Pairs → ℕ → ℕ → Option (Value × Value) → Costing (Value × Object)
 taken_pair pairs changes at None = raises KeyError
@@ -178,8 +177,11 @@ abbrev pub delete_pair : Value → Change Object Value
 delete_pair key (object.Dict pairs changes) = delete_at pairs changes (key_place key pairs)
 delete_pair key other = raises KeyError
 
+abbrev pub dict_delete_free : ObjId → Value → Change World Value
+dict_delete_free dict key = on_object dict (delete_pair key)
+
 abbrev pub dict_delete : ObjId → Value → Change World Value
-dict_delete dict key world = costs (key_cost key + length (pairs world dict)) (for_key (as_key world key) (on_object dict (delete_pair key) world))
+dict_delete dict key world = costs (key_cost key + length (pairs world dict)) (for_key (as_key world key) (dict_delete_free dict key world))
 
 abbrev pub put_all : Pairs → Object → Object
 put_all [] dict = dict
@@ -196,7 +198,7 @@ dict_copy dict world = costs (length (pairs world dict)) (done (made (object.Dic
 
 -- Instances.
 
-abbrev pub make_instance : ClassId → Option (List Value) → World → ObjId × World
+abbrev pub make_instance : ClassId → Option (Measured Value) → World → ObjId × World
 make_instance class args world = made (object.Instance class [] args) world
 
 abbrev pub attribute_place : List ℕ → Attributes → Option ℕ
@@ -218,11 +220,11 @@ set_attribute name new other = other
 abbrev pub attr_set : ObjId → List ℕ → Value → World → World
 attr_set instance name new world = with_object world instance (set_attribute name new (object_at world instance))
 
-abbrev pub with_args : List Value → Object → Object
+abbrev pub with_args : Measured Value → Object → Object
 with_args args (object.Instance class attributes old) = object.Instance class attributes (Some args)
 with_args args other = other
 
-abbrev pub set_args : ObjId → List Value → World → World
+abbrev pub set_args : ObjId → Measured Value → World → World
 set_args instance args world = with_object world instance (with_args args (object_at world instance))
 
 -- Clearing a dict that wasn't empty is one change of its keys.

@@ -8,19 +8,18 @@ use Rattle.py_syntax.specs.declared.operator.BinOp.{BinOp}
 use Rattle.py_syntax.specs.declared.operator.BinOp.TheVariants.{Add, Sub, Mul, FloorDiv, Mod}
 use Rattle.py_syntax.specs.declared.operator.CmpOp.{CmpOp}
 use Rattle.py_syntax.specs.declared.operator.CmpOp.TheVariants.{Lt, Gt, Eq, Ge, Le, Ne, Contained, NotContained, Same, NotSame}
-use Rattle.py_meaning.specs.declared.object.Object.TheVariants as object
 use Rattle.py_meaning.specs.declared.order.Order.TheVariants.{Less, Greater, AtMost, AtLeast}
 use Rattle.py_meaning.specs.declared.value.Value.{Value, Value-F, out-Value}
 use Rattle.py_meaning.specs.declared.value.Value.TheVariants as value
 use Rattle.py_meaning.specs.Steps.{Costing, Change, aside, done, leaves, costs, ◌>>=◌}
 use Rattle.py_meaning.specs.Values.{number_of, is_view}
-use Rattle.py_meaning.specs.Worlds.{World, object_at, elements, with_object}
-use Rattle.py_meaning.specs.Operations.{grown}
+use Rattle.py_meaning.specs.Worlds.{World, object_at, elements}
+use Rattle.py_meaning.specs.Operations.{list_extend_free, set_elements}
 use Rattle.py_meaning.specs.Walk.{walk}
 use Rattle.py_meaning.specs.Equal.{equal}
 use Rattle.py_meaning.specs.Less.{ordered}
 use Rattle.py_meaning.specs.Sums.{add_values, is_list}
-use Rattle.py_meaning.specs.Arithmetic.{by_numbers, difference, quotient, multiply_values, rest_of_values, in_machine, from_zero}
+use Rattle.py_meaning.specs.Arithmetic.{by_numbers, difference, quotient, multiply_values, rest_of_values, in_machine, count_or_zero}
 use Rattle.py_meaning.specs.Membership.{identical, contains}
 
 abbrev pub binary_values : BinOp → Value-F Value → Value-F Value → Change World Value
@@ -41,11 +40,11 @@ list_named world _ = None
 
 -- `+=` on a list: it grows by what is walked, which is taken first.
 abbrev pub extend_list : ObjId → Value → Change World Value
-extend_list list b world = walk world b >>= (λ items. done (value.Ref list, with_object world list (grown items (object_at world list))))
+extend_list list b world = walk world b >>= (λ items. done (value.Ref list, list_extend_free list items world))
 
 -- `*=` on a list, which stays the same object.
 abbrev pub repeat_in_place : ObjId → World → ℤ → Costing (Value × World)
-repeat_in_place list world n = costs (from_zero n * length (elements world list)) (done (value.Ref list, with_object world list (object.List (repeat (from_zero n) (elements world list)))))
+repeat_in_place list world n = costs (count_or_zero n * length (elements world list)) (done (value.Ref list, set_elements list (repeat (count_or_zero n) (elements world list)) world))
 
 abbrev pub repeat_list : ObjId → Value → Change World Value
 repeat_list list b world = if is_view (out-Value b) then leaves construct.View else in_machine (number_of (out-Value b)) (repeat_in_place list world)

@@ -10,15 +10,16 @@ use Rattle.py_meaning.specs.declared.value.Value.{Value, Value-F, out-Value}
 use Rattle.py_meaning.specs.declared.value.Value.TheVariants as value
 use Rattle.py_meaning.specs.Steps.{Costing, Change, aside, answering, done, raises, leaves, costs, ◌>>=◌}
 use Rattle.py_meaning.specs.Values.{number_of, number_of_truth, is_view, at_place}
+use Rattle.py_meaning.specs.Tuples.{new_tuple}
 use Rattle.py_meaning.specs.Worlds.{World, object_at, elements}
-use Rattle.py_meaning.specs.Operations.{kind_of, made, index_place, insert_place, list_set, list_remove, dict_get, dict_put, dict_delete}
+use Rattle.py_meaning.specs.Operations.{kind_of, made, index_place, insert_place, list_set, list_remove_free, dict_get, dict_put, dict_delete}
 use Rattle.py_meaning.specs.Sums.{as_value, is_list}
 
 abbrev pub or_index_error : {A : Type 0} → Option A → Costing A
 or_index_error None = raises IndexError
 or_index_error (Some x) = done x
 
--- what stands at an index, below 0 from the end
+-- what is at an index, below 0 from the end
 abbrev pub indexed : {A : Type 0} → List A → Option ℤ → Costing A
 indexed xs None = raises TypeError
 indexed xs (Some at) = or_index_error (at_place xs (index_place at (length xs)))
@@ -30,7 +31,7 @@ item_of_object id (kind.Instance class) at world = raises TypeError
 
 abbrev pub item_of : Value-F Value → Value → World → Costing Value
 item_of (Value-F.Str s) at world = indexed s (number_of (out-Value at)) >>= (λ c. done (value.Str (c ∷ [])))
-item_of (Value-F.Tuple parts) at world = indexed parts (number_of (out-Value at))
+item_of (Value-F.Tuple tuple) at world = indexed tuple.parts (number_of (out-Value at))
 item_of (Value-F.Ref id) at world = item_of_object id (kind_of (object_at world id)) at world
 item_of (Value-F.Class class) at world = leaves construct.SubscriptOfAClass
 item_of _ at world = raises TypeError
@@ -57,8 +58,12 @@ put_in _ at new world = raises TypeError
 abbrev pub put_item : Value → Value → Value → Change World (Unit {0})
 put_item of at new = if is_view (out-Value of) || is_view (out-Value at) then aside (leaves construct.View) else put_in (out-Value of) at new
 
+-- The cost comes first, also where the index is no number.
+abbrev pub delete_in_list : ObjId → Value → Change World (Unit {0})
+delete_in_list id at world = costs (length (elements world id)) (at_number (number_of (out-Value at)) (λ n. answering tt (list_remove_free id n)) world)
+
 abbrev pub delete_in_object : ObjId → ObjKind → Value → Change World (Unit {0})
-delete_in_object id kind.List at = at_number (number_of (out-Value at)) (λ n. answering tt (list_remove id n))
+delete_in_object id kind.List at = delete_in_list id at
 delete_in_object id kind.Dict at = answering tt (dict_delete id at)
 delete_in_object id (kind.Instance class) at = aside (raises TypeError)
 
@@ -89,7 +94,7 @@ abbrev pub cut_text : List ℕ → Costing Value
 cut_text s = costs (length s) (done (value.Str s))
 
 abbrev pub cut_tuple : List Value → Costing Value
-cut_tuple parts = costs (length parts) (done (value.Tuple parts))
+cut_tuple parts = costs (length parts) (new_tuple parts)
 
 -- a new list
 abbrev pub cut_list : List Value → Change World Value
@@ -101,7 +106,7 @@ cut_ref id low high world = if is_list (object_at world id) then cut_list (cut l
 abbrev pub slice_of : Value-F Value → Option (Option ℤ) → Option (Option ℤ) → Change World Value
 slice_of (Value-F.Class class) _ _ = aside (leaves construct.SubscriptOfAClass)
 slice_of (Value-F.Str s) (Some low) (Some high) = aside (cut_text (cut low high s))
-slice_of (Value-F.Tuple parts) (Some low) (Some high) = aside (cut_tuple (cut low high parts))
+slice_of (Value-F.Tuple tuple) (Some low) (Some high) = aside (cut_tuple (cut low high tuple.parts))
 slice_of (Value-F.Ref id) (Some low) (Some high) = cut_ref id low high
 slice_of _ _ _ = aside (raises TypeError)
 

@@ -10,6 +10,7 @@ use Rattle.py_meaning.specs.declared.value.Value.{Value, Value-F, out-Value}
 use Rattle.py_meaning.specs.declared.value.Value.TheVariants as value
 use Rattle.py_meaning.specs.Steps.{Costing, Change, aside, done, raises, leaves, costs}
 use Rattle.py_meaning.specs.Values.{number_of, is_view}
+use Rattle.py_meaning.specs.Tuples.{new_tuple}
 use Rattle.py_meaning.specs.Worlds.{World, object_at, elements}
 use Rattle.py_meaning.specs.Operations.{made}
 
@@ -31,7 +32,7 @@ abbrev pub add_texts : List ℕ → List ℕ → Costing Value
 add_texts s t = costs (length s + length t) (done (value.Str (s ++ t)))
 
 abbrev pub add_tuples : List Value → List Value → Costing Value
-add_tuples xs ys = costs (length xs + length ys) (done (value.Tuple (xs ++ ys)))
+add_tuples xs ys = costs (length xs + length ys) (new_tuple (xs ++ ys))
 
 abbrev pub or_range : Option ℤ → Costing Value
 or_range None = leaves construct.IntegerRange
@@ -43,7 +44,7 @@ add_numbers _ _ = raises TypeError
 
 abbrev pub add_values : Value-F Value → Value-F Value → Change World Value
 add_values (Value-F.Str s) (Value-F.Str t) = aside (add_texts s t)
-add_values (Value-F.Tuple xs) (Value-F.Tuple ys) = aside (add_tuples xs ys)
+add_values (Value-F.Tuple s) (Value-F.Tuple t) = aside (add_tuples s.parts t.parts)
 add_values (Value-F.Ref i) (Value-F.Ref j) = add_refs i j
 add_values a b = aside (add_numbers (number_of a) (number_of b))
 

@@ -1,11 +1,11 @@
--- Values: numbers, sameness, lengths and depths.
-use Rattle.std.specs.Prelude.{ℕ, zero, suc, ◌+◌, ◌/◌, max, ℤ, pos, negsuc, ◌-ℤ◌, int_lt, nat_abs, Bool, true, false, if◌then◌else◌, ◌==◌, bytes_eq, List, [], ◌∷◌, slice_get, Option, Some, None}
+-- Values: numbers, sameness and lengths.
+use Rattle.std.specs.Prelude.{ℕ, zero, suc, ◌+◌, ◌/◌, ℤ, pos, negsuc, ◌-ℤ◌, int_lt, nat_abs, Bool, true, false, if◌then◌else◌, ◌==◌, bytes_eq, List, slice_get, Option, Some, None}
 use Rattle.std.specs.Ordering.{int_eq}
 use Rattle.pyn_base.specs.declared.class.BuiltClass.{BuiltClass}
 use Rattle.pyn_base.specs.declared.class.BuiltClass.TheVariants as built
 use Rattle.pyn_base.specs.declared.class.ClassId.{ClassId}
 use Rattle.pyn_base.specs.declared.class.ClassId.TheVariants.{Built, Own}
-use Rattle.py_meaning.specs.declared.value.Value.{Value, Value-F, fold-Value}
+use Rattle.py_meaning.specs.declared.value.Value.{Value-F}
 
 -- A truth value counts as 0 or 1 wherever an integer does.
 abbrev pub number_of_truth : Bool → ℤ
@@ -64,26 +64,10 @@ same_single (Value-F.Func f) (Value-F.Func g) = f.0 == g.0
 same_single Value-F.ModuleRef Value-F.ModuleRef = true
 same_single a b = same_number (number_of a) (number_of b)
 
--- what stands at a place, if one is given
+-- what is at a place, if one is given
 abbrev pub at_place : {A : Type 0} → List A → Option ℕ → Option A
 at_place xs None = None
 at_place xs (Some at) = slice_get xs at
-
-abbrev pub deepest : List ℕ → ℕ
-deepest [] = 0
-deepest (d ∷ ds) = max d (deepest ds)
-
--- the depth of a tuple from those of its parts, and 0 for everything else
-abbrev pub depth_by : Value-F ℕ → ℕ
-depth_by (Value-F.Tuple parts) = suc (deepest parts)
-depth_by _ = 0
-
-unfoldable pub depth : Value → ℕ
-depth = fold-Value ℕ depth_by
-
--- A tuple is no deeper than this.
-abbrev pub tuple_limit : ℕ
-tuple_limit = 50
 
 -- how many steps of a size lead over a distance, the last one perhaps beyond its end
 abbrev pub steps_over : ℕ → ℕ → ℕ

@@ -11,7 +11,8 @@ use Rattle.py_meaning.specs.declared.value.Value.TheVariants as value
 use Rattle.py_meaning.specs.declared.value.View.{View}
 use Rattle.py_meaning.specs.declared.value.View.TheVariants.{Range, Keys, Values, Items}
 use Rattle.py_meaning.specs.Steps.{Costing, costs, done, raises, leaves}
-use Rattle.py_meaning.specs.Values.{depth, tuple_limit, range_length}
+use Rattle.py_meaning.specs.Values.{range_length}
+use Rattle.py_meaning.specs.Tuples.{depth, tuple_limit, tuple}
 use Rattle.py_meaning.specs.Worlds.{World, Pairs, object_at, pairs}
 
 abbrev pub is_filled : {A : Type 0} → List A → Bool
@@ -34,7 +35,7 @@ truth_by world Value-F.None = false
 truth_by world (Value-F.Bool b) = b
 truth_by world (Value-F.Int n) = not (int_eq n (pos 0))
 truth_by world (Value-F.Str s) = is_filled s
-truth_by world (Value-F.Tuple parts) = is_filled parts
+truth_by world (Value-F.Tuple tuple) = is_filled tuple.parts
 truth_by world (Value-F.Ref id) = object_truth (object_at world id)
 truth_by world (Value-F.View view) = view_truth world view
 truth_by world _ = true
@@ -60,7 +61,7 @@ values_of pairs = map (λ pair. pair.1) pairs
 
 -- each pair as a tuple
 abbrev pub items_of : Pairs → List Value
-items_of pairs = map (λ pair. value.Tuple (pair.0 ∷ pair.1 ∷ [])) pairs
+items_of pairs = map (λ pair. tuple (pair.0 ∷ pair.1 ∷ [])) pairs
 
 abbrev pub walked_object : Object → Option (List Value)
 walked_object (object.List items) = Some items
@@ -75,7 +76,7 @@ walked_view world (Items dict) = items_of (pairs world dict)
 
 abbrev pub walked_by : World → Value-F Value → Option (List Value)
 walked_by world (Value-F.Str s) = Some (characters_of s)
-walked_by world (Value-F.Tuple parts) = Some parts
+walked_by world (Value-F.Tuple tuple) = Some tuple.parts
 walked_by world (Value-F.Ref id) = walked_object (object_at world id)
 walked_by world (Value-F.View view) = Some (walked_view world view)
 walked_by world _ = None

@@ -1,15 +1,17 @@
 -- Worlds: objects in the order in which they were made.
-use Rattle.std.specs.Prelude.{◌-◌, ◌^◌, ℤ, pos, negsuc, int_le, Bool, true, false, ◌&&◌, not, nat_lt, nat_le, List, [], length, map, slice_get, slice_index_or, slice_set, Option, Some, None}
+use Rattle.std.specs.Prelude.{ℕ, ◌-◌, ◌^◌, ℤ, pos, negsuc, int_le, Bool, true, false, ◌&&◌, not, nat_lt, List, [], length, map, slice_get, slice_index_or, slice_set, Option, Some, None}
 use Rattle.std.specs.List.{list_all}
 use Rattle.std.specs.Ordering.{int_eq}
 use Rattle.pyn_base.specs.declared.ids.ObjId.{ObjId}
 use Rattle.pyn_base.specs.declared.name.Name.{Name}
 use Rattle.py_meaning.specs.declared.object.Object.{Object}
 use Rattle.py_meaning.specs.declared.object.Object.TheVariants as object
-use Rattle.py_meaning.specs.declared.value.Value.{Value, Value-F, fold-Value}
+use Rattle.py_meaning.specs.declared.measured.Measured.{Measured}
+use Rattle.py_meaning.specs.declared.value.Value.{Value, Value-F, para-Value}
+use Rattle.py_meaning.specs.declared.value.Value.TheVariants as value
 use Rattle.py_meaning.specs.declared.value.View.{View}
 use Rattle.py_meaning.specs.declared.value.View.TheVariants.{Range, Keys, Values, Items}
-use Rattle.py_meaning.specs.Values.{depth, tuple_limit}
+use Rattle.py_meaning.specs.Tuples.{depth, is_measured}
 
 -- A reference is a place in the world. Making an object appends it.
 abbrev pub World : Type 0
@@ -72,23 +74,22 @@ sound_view marks (Keys dict) = slice_index_or marks dict.0 false
 sound_view marks (Values dict) = slice_index_or marks dict.0 false
 sound_view marks (Items dict) = slice_index_or marks dict.0 false
 
-abbrev pub sound_by : List Bool → Value-F Bool → Bool
-sound_by marks (Value-F.Tuple parts) = list_all (λ part. part) parts
-sound_by marks (Value-F.Ref id) = nat_lt id.0 (length marks)
-sound_by marks (Value-F.View view) = sound_view marks view
-sound_by marks _ = true
+-- At one level, from what is found of a tuple's parts: each reference names an object, each view of a dict a dict, and a tuple's
+-- number is right and within the limit.
+abbrev pub sound_by : {A : Type 0} → (A → Bool) → (A → ℕ) → List Bool → Value-F A → Bool
+sound_by is_sound depth_of marks (Value-F.Tuple tuple) = list_all is_sound tuple.parts && is_measured tuple.depth (map depth_of tuple.parts)
+sound_by is_sound depth_of marks (Value-F.Ref id) = nat_lt id.0 (length marks)
+sound_by is_sound depth_of marks (Value-F.View view) = sound_view marks view
+sound_by is_sound depth_of marks _ = true
 
--- each reference names an object, at every depth of the tuples, and each view of a dict a dict
-unfoldable pub all_sound : List Bool → Value → Bool
-all_sound marks = fold-Value Bool (sound_by marks)
+-- the same at every level
+unfoldable pub sound : List Bool → Value → Bool
+sound marks = para-Value Bool (sound_by (λ part. part.1) (λ part. depth part.0) marks)
 
--- and no tuple is too deep
-abbrev pub sound : List Bool → Value → Bool
-sound marks value = all_sound marks value && nat_le (depth value) tuple_limit
-
-abbrev pub sound_args : List Bool → Option (List Value) → Bool
+-- The arguments of an exception are a tuple.
+abbrev pub sound_args : List Bool → Option (Measured Value) → Bool
 sound_args marks None = true
-sound_args marks (Some args) = list_all (sound marks) args
+sound_args marks (Some args) = sound marks (value.Tuple args)
 
 abbrev pub sound_object : List Bool → Object → Bool
 sound_object marks (object.List items) = list_all (sound marks) items

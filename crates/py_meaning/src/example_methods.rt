@@ -1,4 +1,4 @@
-// Worked examples of the methods, by which a reader can see that they mean what the manual says.
+// Worked examples of the methods, which show that they mean what the manual says.
 ghost use Rattle.std.specs.Prelude.{◌≡◌, pos, negsuc, true, [], ◌∷◌, codes};
 ghost use Rattle.py_meaning.specs.Examples.{id, ref, int};
 ghost use Rattle.py_meaning.specs.Steps.{changes};

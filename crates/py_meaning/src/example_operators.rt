@@ -1,7 +1,8 @@
-// Worked examples of the operators, by which a reader can see that they mean what the Language Reference says.
+// Worked examples of the operators, which show that they mean what the Language Reference says.
 ghost use Rattle.std.specs.Prelude.{◌≡◌, pos, negsuc, true, false, [], ◌∷◌, ◌^◌, ◌+◌, codes};
 ghost use Rattle.py_meaning.specs.Examples.{ref, int};
 ghost use Rattle.py_meaning.specs.Steps.{changes};
+ghost use Rattle.py_meaning.specs.Tuples.{tuple};
 ghost use Rattle.py_meaning.specs.Arithmetic.{unary};
 ghost use Rattle.py_meaning.specs.Membership.{contains};
 ghost use Rattle.py_meaning.specs.Operators.{binary, augment, compare};
@@ -30,6 +31,9 @@ pub fn operator_examples()
     ensures true_is_no_integer { compare CmpOp.Same (Value.Bool true) (int 1) [] 10 ≡ (Op.Done false, 10) }
     ensures two_integers { compare CmpOp.NotSame (int 1) (int 1) [] 10 ≡ (Op.Leaves Construct.Identity, 10) }
     ensures one_in_two_and_true { contains (int 1) (ref 0) (Object.List (int 2 ∷ Value.Bool true ∷ []) ∷ []) 10 ≡ (Op.Done true, 8) }
+    ensures the_element_at_the_left { let world = Object.Dict ((int 2, Value.Str (codes "x")) ∷ []) 1 ∷ Object.Dict ((Value.Str (codes "a"), int 1) ∷ []) 1 ∷ [] in contains (ref 0) (tuple (int 1 ∷ ref 1 ∷ ref 0 ∷ [])) world 10 ≡ (Op.Done true, 5) }
+    ensures an_equal_dict { let held = Object.Dict ((int 2, Value.Str (codes "x")) ∷ []) 1 in let world = held ∷ Object.Dict ((Value.Str (codes "a"), int 1) ∷ []) 1 ∷ held ∷ [] in contains (ref 0) (tuple (int 1 ∷ ref 1 ∷ ref 2 ∷ [])) world 10 ≡ (Op.Done true, 2) }
+    ensures a_range_is_compared { let range = Value.View (View.Range (pos 0) (pos 1) (pos 1)) in let a = Object.Dict ((int 1, range) ∷ (int 2, Value.Str (codes "a")) ∷ []) 2 in let b = Object.Dict ((int 2, Value.Str (codes "b")) ∷ (int 1, range) ∷ []) 2 in contains (ref 0) (tuple (ref 1 ∷ [])) (a ∷ b ∷ []) 10 ≡ (Op.Leaves Construct.View, 7) }
     ensures a_part_of_a_text { contains (Value.Str (codes "bc")) (Value.Str (codes "abcd")) [] 10 ≡ (Op.Done true, 4) }
     ensures no_part_of_a_text { contains (int 3) (Value.Str (codes "abc")) [] 10 ≡ (Op.Raises BuiltClass.TypeError, 10) }
     ensures not_of_a_range { contains (int 1) (Value.View (View.Range (pos 0) (pos 5) (pos 2))) [] 10 ≡ (Op.Done false, 10) }
@@ -39,6 +43,9 @@ pub fn operator_examples()
     ensures of_a_class { get_item (Value.Class (ClassId.Built BuiltClass.Int)) (int 0) [] 10 ≡ (Op.Leaves Construct.SubscriptOfAClass, 10) }
     ensures put_at_no_cost { changes (put_item (ref 0) (int 0) (int 6)) (Object.List (int 5 ∷ []) ∷ []) 10 ≡ (Op.Done tt, Object.List (int 6 ∷ []) ∷ [], 10) }
     ensures deleted { changes (delete_item (ref 0) (int 0)) (Object.List (int 5 ∷ int 6 ∷ []) ∷ []) 10 ≡ (Op.Done tt, Object.List (int 6 ∷ []) ∷ [], 8) }
+    ensures an_index_that_is_no_integer { let world = Object.List (int 5 ∷ int 6 ∷ []) ∷ [] in changes (delete_item (ref 0) (Value.Str (codes "a"))) world 10 ≡ (Op.Raises BuiltClass.TypeError, world, 8) }
+    ensures too_few_steps_for_the_index { let world = Object.List (int 5 ∷ int 6 ∷ []) ∷ [] in changes (delete_item (ref 0) (Value.Str (codes "a"))) world 1 ≡ (Op.OutOfSteps, world, 1) }
+    ensures joined_tuples { changes (binary BinOp.Add (tuple (int 1 ∷ [])) (tuple [])) [] 10 ≡ (Op.Done (tuple (int 1 ∷ [])), [], 9) }
     ensures the_last_two { changes (slice (ref 0) (Value.Int (negsuc 1)) Value.None) (Object.List (int 1 ∷ int 2 ∷ int 3 ∷ []) ∷ []) 10 ≡ (Op.Done (ref 1), Object.List (int 1 ∷ int 2 ∷ int 3 ∷ []) ∷ Object.List (int 2 ∷ int 3 ∷ []) ∷ [], 8) }
     ensures clamped { changes (slice (Value.Str (codes "abc")) (int 1) (int 9)) [] 10 ≡ (Op.Done (Value.Str (codes "bc")), [], 8) }
 {}

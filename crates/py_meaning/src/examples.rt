@@ -1,9 +1,9 @@
-// Worked examples of the words, by which a reader can see that they mean what the manual says.
+// Worked examples of the words, which show that they mean what the manual says.
 ghost use Rattle.std.specs.Prelude.{◌≡◌, pos, negsuc, true, false, [], ◌∷◌, Some, None, codes};
-ghost use Rattle.py_meaning.specs.Examples.{id, ref, int};
+ghost use Rattle.py_meaning.specs.Examples.{id, ref, int, nested};
 ghost use Rattle.py_meaning.specs.Steps.{changes};
-ghost use Rattle.py_meaning.specs.Values.{depth, range_length};
-ghost use Rattle.py_meaning.specs.Worlds.{sound, dicts};
+ghost use Rattle.py_meaning.specs.Tuples.{depth, measured, tuple};
+ghost use Rattle.py_meaning.specs.Worlds.{sound, sound_args, dicts};
 ghost use Rattle.py_meaning.specs.Keys.{key_cost};
 ghost use Rattle.py_meaning.specs.Walk.{truth, walk};
 ghost use Rattle.py_meaning.specs.Equal.{equal, equal_within};
@@ -16,10 +16,13 @@ use pyn_base::{BuiltClass, Construct};
 
 /// What the definitions say of small worlds.
 pub fn world_examples()
-    ensures deep { depth (Value.Tuple (Value.Tuple [] ∷ int 1 ∷ [])) ≡ 2 }
-    ensures key_of_a_tuple { key_cost (Value.Tuple (Value.Str (codes "ab") ∷ int 1 ∷ [])) ≡ 5 }
+    ensures deep { depth (tuple (tuple [] ∷ int 1 ∷ [])) ≡ 2 }
+    ensures key_of_a_tuple { key_cost (tuple (Value.Str (codes "ab") ∷ int 1 ∷ [])) ≡ 5 }
     ensures empty_is_false { truth (Object.List [] ∷ []) (ref 0) ≡ false }
-    ensures nothing_there { sound (dicts (Object.List [] ∷ [])) (Value.Tuple (ref 1 ∷ [])) ≡ false }
+    ensures nothing_there { sound (dicts (Object.List [] ∷ [])) (tuple (ref 1 ∷ [])) ≡ false }
+    ensures wrong_number { sound [] (Value.Tuple (record { parts = []; depth = 0 })) ≡ false }
+    ensures fifty_levels { sound [] (nested 50) ≡ true }
+    ensures arguments_of_51_levels { sound_args [] (Some (measured (nested 50 ∷ []))) ≡ false }
     ensures two_lists { let held = Object.List (int 1 ∷ Value.Str (codes "ab") ∷ []) in equal (held ∷ held ∷ []) (ref 0) (ref 1) 10 ≡ (Op.Done true, 6) }
     ensures same_list { equal (Object.List (ref 0 ∷ []) ∷ []) (ref 0) (ref 0) 0 ≡ (Op.Done true, 0) }
     ensures last_level { equal_within 0 (Object.List [] ∷ Object.List [] ∷ []) (ref 0) (ref 1) 10 ≡ (Op.Leaves Construct.ComparisonDepth, 10) }

@@ -1,15 +1,15 @@
 // Values (Language Reference 3.1 and 3.2).
 ghost use Rattle.std.specs.Prelude.{◌≡◌, IfOk};
 
-use crate::Shared;
+use crate::{Measured, Shared};
 use pyn_base::{ClassId, FuncId, Memory, ObjId, PyInt};
 use sqlite_items::Items;
 
 /// A string, which a contract sees as the list of its characters.
 pub type PyStr = Shared<Items<char>>;
 
-/// A tuple, which a contract sees as the list of its parts.
-pub type PyTuple = Shared<Items<Value>>;
+/// A tuple, which a contract sees as its parts and its depth.
+pub type PyTuple = Measured<Value>;
 
 /// What walks a range or a dict without a copy. It names a dict by its place in the table.
 #[derive(Clone, Copy, Debug, PartialEq, Eq)]

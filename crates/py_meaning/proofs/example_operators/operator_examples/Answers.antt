@@ -1,5 +1,5 @@
-use Rattle.py_meaning.specs.Equal.{equal}
-use Rattle.py_meaning.specs.Folds.{views}
+use Rattle.py_meaning.specs.Equal.{equal, equal_pair}
+use Rattle.py_meaning.specs.Folds.{levels, views}
 use Rattle.py_meaning.proofs.example_operators.operator_examples.Goals as goal
 
 pub returns-clause-rounded_down : goal.returns-clause-rounded_down
@@ -86,3 +86,24 @@ returns-clause-the_last_two c = simp views
 
 pub returns-clause-clamped : goal.returns-clause-clamped
 returns-clause-clamped c = simp views
+
+pub returns-clause-the_element_at_the_left : goal.returns-clause-the_element_at_the_left
+unfolding equal equal_pair
+returns-clause-the_element_at_the_left c = simp (levels, views)
+
+pub returns-clause-an_equal_dict : goal.returns-clause-an_equal_dict
+unfolding equal equal_pair
+returns-clause-an_equal_dict c = simp (levels, views)
+
+pub returns-clause-a_range_is_compared : goal.returns-clause-a_range_is_compared
+unfolding equal equal_pair
+returns-clause-a_range_is_compared c = simp (levels, views)
+
+pub returns-clause-an_index_that_is_no_integer : goal.returns-clause-an_index_that_is_no_integer
+returns-clause-an_index_that_is_no_integer c = simp views
+
+pub returns-clause-too_few_steps_for_the_index : goal.returns-clause-too_few_steps_for_the_index
+returns-clause-too_few_steps_for_the_index c = simp views
+
+pub returns-clause-joined_tuples : goal.returns-clause-joined_tuples
+returns-clause-joined_tuples c = simp views

@@ -2,6 +2,8 @@ use Rattle.std.proofs.Common.{refl}
 use Rattle.py_meaning.specs.Equal.{equal, equal_pair}
 use Rattle.py_meaning.specs.Less.{ordered}
 use Rattle.py_meaning.specs.Folds.{levels, views}
+use Rattle.py_meaning.specs.Tuples.{tuple}
+use Rattle.py_meaning.proofs.Levels.{nested_sound}
 use Rattle.py_meaning.proofs.examples.world_examples.Goals as goal
 
 pub returns-clause-deep : goal.returns-clause-deep
@@ -69,3 +71,13 @@ returns-clause-too_few_steps c = simp (levels, views)
 
 pub returns-clause-a_range : goal.returns-clause-a_range
 returns-clause-a_range c = simp (levels, views)
+
+pub returns-clause-wrong_number : goal.returns-clause-wrong_number
+returns-clause-wrong_number c = simp (levels, views)
+
+pub returns-clause-fifty_levels : goal.returns-clause-fifty_levels
+returns-clause-fifty_levels c = nested_sound 50
+
+pub returns-clause-arguments_of_51_levels : goal.returns-clause-arguments_of_51_levels
+unfolding tuple
+returns-clause-arguments_of_51_levels c = nested_sound 51

@@ -1,4 +1,5 @@
 use Rattle.py_meaning.proofs.SoundWalks.{walk_gives}
+use Rattle.py_meaning.proofs.Comparisons.{compare_answers, unary_answers}
 use Rattle.py_meaning.proofs.SoundOperators.{binary_holds, augment_holds, get_item_gives, put_item_sound, delete_item_sound, slice_holds}
 use Rattle.py_meaning.proofs.SoundBuiltins.{call_builtin_holds}
 use Rattle.py_meaning.proofs.SoundMethods.{call_method_holds}
@@ -30,3 +31,9 @@ returns-clause-builtins c id args world h f = call_builtin_holds world h id args
 
 pub returns-clause-methods : goal.returns-clause-methods
 returns-clause-methods c receiver name args world h f = call_method_holds world h receiver name args f
+
+pub returns-clause-signs : goal.returns-clause-signs
+returns-clause-signs c sign a = unary_answers sign a
+
+pub returns-clause-comparisons : goal.returns-clause-comparisons
+returns-clause-comparisons c op a b world = compare_answers world op a b

@@ -8,6 +8,7 @@
 //! It stands on `pyn_base` and `py_syntax`.
 #![tactic(auto)]
 
+mod answers;
 mod builtin;
 mod example_builtins;
 mod example_methods;

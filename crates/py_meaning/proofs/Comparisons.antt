@@ -26,8 +26,8 @@ use Rattle.py_meaning.specs.Membership.{identical, equal_place, any_equal, is_ke
 use Rattle.py_meaning.specs.Operators.{negated, compare}
 use Rattle.py_meaning.specs.Arithmetic.{unary, sign_number}
 use Rattle.py_meaning.specs.SoundRuns.{Answers, Answering}
-use Rattle.py_meaning.proofs.Outcomes.{gives_asked, gives_costs, gives_if}
-use Rattle.py_meaning.proofs.Questions.{Any, equal_answers, ordered_answers, place_answers}
+use Rattle.py_meaning.specs.Outcomes.{gives_asked, gives_costs, gives_if}
+use Rattle.py_meaning.specs.Questions.{Any, equal_answers, ordered_answers, place_answers}
 use Rattle.py_meaning.proofs.SoundWalks.{for_key_gives}
 
 negated_answers : (run : Costing Bool) → Answering run → Answering (negated run)

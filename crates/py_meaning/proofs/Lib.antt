@@ -1,8 +1,6 @@
 pub mod Seconds
 pub mod Soundness
 pub mod Keeping
-pub mod Outcomes
-pub mod Questions
 pub mod SoundKinds
 pub mod SoundWalks
 pub mod Comparisons

@@ -31,8 +31,8 @@ use Rattle.py_meaning.specs.Texts.{is_ascii}
 use Rattle.py_meaning.specs.Builtins.{or_type_error, len_row, absolute, abs_row, best_from, best, best_row, is_less_than, is_more_than, add_all, add_all_to, sum_of, sum_row, plain_text, text_or_leaves, text_of_args, text_of_object, text_of_value, str_row, spelled, integer_or_type_error, integer_of, int_row, bool_row, listed, list_row, tupled, tuple_row, dict_of_object, dict_of_value, dict_row, range_of, range_row, call_builtin}
 use Rattle.py_meaning.specs.SoundRuns.{AllFit, Answering, Fits, Gives, Holds}
 use Rattle.py_meaning.proofs.Soundness.{both, first, second, all_weaker}
-use Rattle.py_meaning.proofs.Outcomes.{gives_asked, gives_costs, gives_if, gives_then, gives_weaker, gives_aside}
-use Rattle.py_meaning.proofs.Questions.{ordered_answers}
+use Rattle.py_meaning.specs.Outcomes.{gives_asked, gives_costs, gives_if, gives_then, gives_weaker, gives_aside}
+use Rattle.py_meaning.specs.Questions.{ordered_answers}
 use Rattle.py_meaning.proofs.SoundKinds.{level_sound, parts_shallow, sound_tuple, sound_Str, sound_Int, sound_Bool, sound_None}
 use Rattle.py_meaning.proofs.SoundWalks.{made_value, copy_made, dict_made, Walked, walked_fits, walk_gives}
 use Rattle.py_meaning.proofs.SoundSums.{new_list_holds, or_range_gives, add_holds}

@@ -36,8 +36,8 @@ use Rattle.py_meaning.specs.Texts.{is_ascii, pieces, words, joined, replaced, fi
 use Rattle.py_meaning.specs.Methods.{named, is_among, no_method, by_method, list_methods, dict_methods, text_methods, left_of_list, left_of_dict, left_of_text, left_of_tuple, left_of_integer, call_on_object, call_on_value, call_method}
 use Rattle.py_meaning.specs.SoundRuns.{AllFit, Fits, Gives, Holds, Answers, WorldSound}
 use Rattle.py_meaning.proofs.Soundness.{first, second}
-use Rattle.py_meaning.proofs.Outcomes.{gives_asked, gives_costs, gives_if, gives_then, gives_aside}
-use Rattle.py_meaning.proofs.Questions.{equal_answers, place_answers}
+use Rattle.py_meaning.specs.Outcomes.{gives_asked, gives_costs, gives_if, gives_then, gives_aside}
+use Rattle.py_meaning.specs.Questions.{equal_answers, place_answers}
 use Rattle.py_meaning.proofs.SoundKinds.{level_sound, sound_Str, sound_Int, sound_Bool, sound_None}
 use Rattle.py_meaning.proofs.SoundWalks.{made_value, copy_made, list_made, elements_fit, texts_fit, walk_gives, dict_get_gives}
 use Rattle.py_meaning.proofs.SoundSums.{in_machine_gives, new_list_holds}

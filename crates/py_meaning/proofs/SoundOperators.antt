@@ -26,7 +26,7 @@ use Rattle.py_meaning.specs.Operators.{binary, binary_values, augment, augment_a
 use Rattle.py_meaning.specs.Subscripts.{indexed, or_index_error, item_of, item_of_object, get_item, at_number, put_in_object, put_in, put_item, delete_in_list, delete_in_object, delete_in, delete_item, bound, bound_place, cut, cut_text, cut_tuple, cut_list, cut_ref, slice_of, slice}
 use Rattle.py_meaning.specs.SoundRuns.{AllFit, Answering, Fits, Gives, Holds, WorldSound}
 use Rattle.py_meaning.proofs.Soundness.{all_join, all_take, all_drop, all_got}
-use Rattle.py_meaning.proofs.Outcomes.{gives_asked, gives_costs, gives_if, gives_then, gives_aside}
+use Rattle.py_meaning.specs.Outcomes.{gives_asked, gives_costs, gives_if, gives_then, gives_aside}
 use Rattle.py_meaning.proofs.SoundKinds.{SoundKind, sound_kind, level_sound, sound_Str, sound_Int}
 use Rattle.py_meaning.proofs.SoundWalks.{elements_fit, walk_gives, dict_get_gives}
 use Rattle.py_meaning.proofs.SoundSums.{in_machine_gives, new_list_holds, text_gives, paid_tuple_gives, or_range_gives, add_values_hold}

@@ -16,7 +16,7 @@ use Rattle.py_meaning.specs.Arithmetic.{in_machine}
 use Rattle.py_meaning.specs.Sums.{add, add_values, add_refs, add_lists, add_texts, add_tuples, add_numbers, or_range, is_list, as_value}
 use Rattle.py_meaning.specs.SoundRuns.{AllFit, Fits, Gives, Holds}
 use Rattle.py_meaning.proofs.Soundness.{all_join}
-use Rattle.py_meaning.proofs.Outcomes.{gives_costs, gives_if, gives_aside}
+use Rattle.py_meaning.specs.Outcomes.{gives_costs, gives_if, gives_aside}
 use Rattle.py_meaning.proofs.SoundKinds.{SoundKind, sound_kind, sound_Str, sound_tuple, sound_Int}
 use Rattle.py_meaning.proofs.SoundWalks.{elements_fit, made_holds}
 

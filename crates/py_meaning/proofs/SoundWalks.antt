@@ -28,9 +28,9 @@ use Rattle.py_meaning.specs.Sums.{as_value}
 use Rattle.py_meaning.specs.SoundRuns.{AllFit, Answers, Fits, Gives, Holds, Made}
 use Rattle.py_meaning.proofs.Soundness.{both, first, second, all_weaker, all_got}
 use Rattle.py_meaning.proofs.Keeping.{object_sound, elements_of_sound, pairs_of_sound, made_world, put_all_sound}
-use Rattle.py_meaning.proofs.Outcomes.{gives_costs, gives_if, gives_then}
+use Rattle.py_meaning.specs.Outcomes.{gives_costs, gives_if, gives_then}
 use Rattle.py_meaning.proofs.SoundKinds.{SoundKind, sound_kind, level_sound, sound_shallow, sound_tuple, tuple_depth, sound_Str, sound_Int}
-use Rattle.py_meaning.proofs.Questions.{as_key_answers, next_key}
+use Rattle.py_meaning.specs.Questions.{as_key_answers, next_key}
 
 abbrev pub pair_fits : List Bool → Value × Value → Bool
 pair_fits marks pair = sound marks pair.0 && sound marks pair.1

@@ -16,7 +16,7 @@ use Rattle.py_meaning.specs.Sums.{is_list}
 use Rattle.py_meaning.specs.SoundRuns.{AllFit, Fits, Gives, Holds, WorldSound}
 use Rattle.py_meaning.proofs.Soundness.{second, all_got, all_remove, all_set}
 use Rattle.py_meaning.proofs.Keeping.{Stays, written_world, object_sound, put_pair_stays, grown_stays, inserted_stays, turned_stays, cleared_stays, set_attribute_stays, with_args_stays}
-use Rattle.py_meaning.proofs.Outcomes.{gives_costs, gives_then, gives_weaker}
+use Rattle.py_meaning.specs.Outcomes.{gives_costs, gives_then, gives_weaker}
 use Rattle.py_meaning.proofs.SoundWalks.{pair_fits, for_key_gives}
 
 pub holds_sound : (world : World) (run : Costing (Value × World)) → Gives (Holds world) run → Gives (WorldSound world) run

@@ -1,5 +1,5 @@
 -- Runs that keep a world sound.
-use Rattle.std.specs.Prelude.{ℕ, IsTrue, List}
+use Rattle.std.specs.Prelude.{ℕ, ◌≤◌, IsTrue, List}
 use Rattle.std.specs.List.{list_all}
 use Rattle.pyn_base.specs.declared.ids.ObjId.{ObjId}
 use Rattle.py_meaning.specs.declared.op.Op.{Op}
@@ -24,6 +24,10 @@ Gives P run = (left : ℕ) → Answers P (run left).0
 -- any answer but out of memory
 abbrev pub Answering : {A : Type 0} → Costing A → Type 0
 Answering run = Gives (λ a. Unit {0}) run
+
+-- The same, and no more steps are left than there were.
+abbrev pub Asks : {A : Type 0} → Costing A → Type 0
+Asks run = (left : ℕ) → Answers (λ a. Unit {0}) (run left).0 × ((run left).1 ≤ left)
 
 -- a value that is sound for a world
 abbrev pub Fits : World → Value → Type 0

@@ -40,5 +40,5 @@ pub use order::Order;
 pub use sequence::Sequence;
 pub use shared::Shared;
 pub use soundness_laws::laws_of_soundness;
-pub use tuple::{TUPLE_LIMIT, new_tuple};
+pub use tuple::{TUPLE_LIMIT, deepest, new_tuple};
 pub use value::{PyStr, PyTuple, Value, View};

@@ -24,7 +24,7 @@ impl Value {
 }
 
 /// How deep the deepest of some values is.
-fn deepest(parts: &[Value]) -> u32
+pub fn deepest(parts: &[Value]) -> u32
     ensures { result ≡ deepest (map depth parts.now) }
 {
     let mut found = 0;

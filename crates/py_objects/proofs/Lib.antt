@@ -4,4 +4,4 @@ pub mod Fronts
 pub mod Depths
 pub mod Sums
 pub mod Counting
-pub mod Shallow
+pub mod Walks

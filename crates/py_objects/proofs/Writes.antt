@@ -6,7 +6,6 @@ use Rattle.py_meaning.specs.declared.object.Object.{Object}
 use Rattle.py_meaning.specs.declared.object.Object.TheVariants as object
 use Rattle.py_meaning.specs.declared.op.Op.{Op}
 use Rattle.py_meaning.specs.declared.op.Op.TheVariants as op
-use Rattle.py_meaning.proofs.Keeping.{unless_memory}
 use Rattle.py_meaning.specs.Steps.{Change, changes, settle, go_on, done, UnlessMemory, UnlessDone}
 use Rattle.py_meaning.specs.Worlds.{World, object_at, or_nothing, with_object}
 use Rattle.py_meaning.specs.Operations.{on_object}
@@ -43,7 +42,14 @@ settled world id op.Memory left = ap (λ w. (op.Memory, w, left)) (sym (keeps wo
 pub changes_on_object : {A : Type 0} (id : ObjId) (change : Change Object A) (world : World) (left : ℕ) → changes (on_object id change) world left ≡ placed world id (changes change (object_at world id) left)
 changes_on_object id change world left = settled world id (change (object_at world id) left).0 (change (object_at world id) left).1
 
-pub unless_done : {A : Type 0} {P Q : Type 0} (answer : Op A) → (P → Q) → UnlessDone answer P → UnlessDone answer Q
+unless_memory : {A : Type 0} {P Q : Type 0} (answer : Op A) → (P → Q) → UnlessMemory answer P → UnlessMemory answer Q
+unless_memory (op.Done a) f p = f p
+unless_memory (op.Raises class) f p = f p
+unless_memory (op.Leaves construct) f p = f p
+unless_memory op.OutOfSteps f p = f p
+unless_memory op.Memory f p = tt
+
+unless_done : {A : Type 0} {P Q : Type 0} (answer : Op A) → (P → Q) → UnlessDone answer P → UnlessDone answer Q
 unless_done (op.Done a) f p = tt
 unless_done (op.Raises class) f p = f p
 unless_done (op.Leaves construct) f p = f p
@@ -60,9 +66,6 @@ module _ (id : ObjId) (world taken after : World) (held held' : Object) (was : h
 
   goes : {A : Type 0} (change : Change Object A) (answer : Op A) (left left' : ℕ) → changes change held left ≡ (answer, held', left') → changes (on_object id change) world left ≡ (answer, after, left')
   goes change answer left left' e = changes_on_object id change world left ∙ ap (placed world id) (ap (λ o. changes change o left) (sym was) ∙ e) ∙ ap (λ w. (answer, w, left')) (sym put_back)
-
-  pub written : {A : Type 0} (change : Change Object A) (answer : Op A) (left left' : ℕ) → UnlessMemory answer (changes change held left ≡ (answer, held', left')) → UnlessMemory answer (changes (on_object id change) world left ≡ (answer, after, left'))
-  written change answer left left' = unless_memory answer (goes change answer left left')
 
   pub written_free : {A : Type 0} (change : Change Object A) (answer : Op A) → UnlessMemory answer ((left : ℕ) → changes change held left ≡ (answer, held', left)) → UnlessMemory answer ((left : ℕ) → changes (on_object id change) world left ≡ (answer, after, left))
   written_free change answer = unless_memory answer (λ h left. goes change answer left left (h left))

@@ -1,12 +1,13 @@
 // What `+` gives.
-ghost use Rattle.std.specs.Prelude.{◌≡◌, IsTrue, ℕ, ◌++◌, IfOk};
+ghost use Rattle.std.specs.Prelude.{◌≡◌, ◌≤◌, ℕ, ◌++◌, IfOk};
 ghost use Rattle.py_meaning.specs.Steps.{changes, UnlessMemory, UnlessDone};
-ghost use Rattle.py_meaning.specs.Worlds.{sound_world, sound, dicts, object_at};
+ghost use Rattle.py_meaning.specs.Worlds.{object_at};
 ghost use Rattle.py_meaning.specs.Sums.{add, is_list, add_refs, add_numbers, add_texts, add_tuples};
 
 use crate::lists::shared_all;
 use crate::same::{is_view, number};
-use crate::{Object, Objects, Op, PyStr, PyTuple, Sequence, Value};
+use crate::{Object, Objects, Op, PyStr, Value};
+use py_meaning::{made, new_tuple};
 use pyn_base::{BuiltClass, Construct, Fuel, Memory, ObjId, PyInt};
 use std::alloc::Global;
 
@@ -17,7 +18,7 @@ impl Objects {
     pub fn add(&mut self, a: &Value, b: &Value, fuel: &mut Fuel) -> Op<Value>
         ensures meant { UnlessMemory result (changes (add a.now b.now) self.old fuel.old ≡ (result, self.new, fuel.new)) }
         ensures unchanged { UnlessDone result (self.new ≡ self.old) }
-        ensures sound { IsTrue (sound_world self.old) → IsTrue (sound (dicts self.old) a.now) → IsTrue (sound (dicts self.old) b.now) → IsTrue (sound_world self.new) }
+        ensures fuel { fuel.new ≤ fuel.old }
     {
         if is_view(a) || is_view(b) {
             return Op::Leaves(Construct::View);
@@ -48,7 +49,7 @@ impl Objects {
     fn add_refs(&mut self, i: ObjId, j: ObjId, fuel: &mut Fuel) -> Op<Value>
         ensures meant { UnlessMemory result (changes (add_refs i j) self.old fuel.old ≡ (result, self.new, fuel.new)) }
         ensures unchanged { UnlessDone result (self.new ≡ self.old) }
-        ensures sound { IsTrue (sound_world self.old) → IsTrue (sound_world self.new) }
+        ensures fuel { fuel.new ≤ fuel.old }
     {
         if !self.is_list(i) || !self.is_list(j) {
             return Op::Raises(BuiltClass::TypeError);
@@ -57,14 +58,8 @@ impl Objects {
         if !fuel.take(count) {
             return Op::OutOfSteps;
         }
-        let joined = match joined_values(self.alloc, self.elements(i), self.elements(j)) {
-            Ok(joined) => joined,
-            Err(Memory) => return Op::Memory,
-        };
-        match self.make(Object::List(Sequence::from_vec(joined))) {
-            Ok(id) => Op::Done(Value::Ref(id)),
-            Err(Memory) => Op::Memory,
-        }
+        let joined = made!(joined_values(self.alloc, self.elements(i), self.elements(j)));
+        Op::Done(Value::Ref(made!(self.new_list(joined))))
     }
 
     /// Whether a reference names a list, or nothing.
@@ -96,34 +91,24 @@ fn joined_texts(alloc: Global, s: &[char], t: &[char]) -> Result<PyStr, Memory>
     PyStr::from_vec(alloc, joined)
 }
 
-fn joined_tuples(alloc: Global, xs: &[Value], ys: &[Value]) -> Result<PyTuple, Memory>
-    ensures { IfOk result (λ joined. joined ≡ xs.now ++ ys.now) }
-{
-    PyTuple::from_vec(alloc, joined_values(alloc, xs, ys)?)
-}
-
 fn add_texts(alloc: Global, s: &[char], t: &[char], fuel: &mut Fuel) -> Op<Value>
-    ensures { UnlessMemory result (add_texts s.now t.now fuel.old ≡ (result, fuel.new)) }
+    ensures meant { UnlessMemory result (add_texts s.now t.now fuel.old ≡ (result, fuel.new)) }
+    ensures fuel { fuel.new ≤ fuel.old }
 {
     if !fuel.take(s.len() as u64 + t.len() as u64) {
         return Op::OutOfSteps;
     }
-    match joined_texts(alloc, s, t) {
-        Ok(joined) => Op::Done(Value::Str(joined)),
-        Err(Memory) => Op::Memory,
-    }
+    Op::Done(Value::Str(made!(joined_texts(alloc, s, t))))
 }
 
 fn add_tuples(alloc: Global, xs: &[Value], ys: &[Value], fuel: &mut Fuel) -> Op<Value>
-    ensures { UnlessMemory result (add_tuples xs.now ys.now fuel.old ≡ (result, fuel.new)) }
+    ensures meant { UnlessMemory result (add_tuples xs.now ys.now fuel.old ≡ (result, fuel.new)) }
+    ensures fuel { fuel.new ≤ fuel.old }
 {
     if !fuel.take(xs.len() as u64 + ys.len() as u64) {
         return Op::OutOfSteps;
     }
-    match joined_tuples(alloc, xs, ys) {
-        Ok(joined) => Op::Done(Value::Tuple(joined)),
-        Err(Memory) => Op::Memory,
-    }
+    new_tuple(alloc, made!(joined_values(alloc, xs, ys)))
 }
 
 fn add_numbers(a: Option<PyInt>, b: Option<PyInt>) -> Op<Value>

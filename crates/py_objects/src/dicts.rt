@@ -1,35 +1,29 @@
-// Dicts: made, looked up, written and shortened. A key's cost comes first, also where it is no key.
-ghost use Rattle.std.specs.Prelude.{◌≡◌, IsTrue, ℕ, ◌+◌, ◌-◌, nat_le, if◌then◌else◌, length, OnOk, OnErr};
+// Dicts: looked up, written and shortened. A key's cost comes first, also where it is no key.
+ghost use Rattle.std.specs.Prelude.{◌≡◌, ◌≤◌, ℕ, ◌+◌, ◌-◌, nat_le, if◌then◌else◌, length, IfOk, OnOk, OnErr};
 ghost use Rattle.std.specs.Option.{option_copied};
 ghost use Rattle.py_meaning.specs.Steps.{changes, UnlessMemory, UnlessDone};
 ghost use Rattle.py_meaning.specs.Keys.{key_cost, value_of_key};
-ghost use Rattle.py_meaning.specs.Worlds.{object_at, with_object, sound_world, sound, dicts};
-ghost use Rattle.py_meaning.specs.Operations.{dict_get, dict_put, dict_delete, put_pair, delete_pair, on_object};
+ghost use Rattle.py_meaning.specs.Operations.{dict_get, dict_put, dict_put_free, dict_delete, dict_delete_free, put_pair, delete_pair};
+ghost use Rattle.py_meaning.specs.DictMethods.{set_default};
 
 use crate::keys::{key_cost_within, key_place, pay_key};
 use crate::{Object, Objects, Op, Value};
+use py_meaning::{done, made};
 use pyn_base::{BuiltClass, Fuel, Memory, ObjId};
 
 impl Objects {
     /// The value of a key. A missing key raises KeyError.
     pub fn dict_get(&self, dict: ObjId, key: &Value, fuel: &mut Fuel) -> Op<Value>
-        ensures { UnlessMemory result (dict_get dict key.now self.now fuel.old ≡ (result, fuel.new)) }
+        ensures meant { UnlessMemory result (dict_get dict key.now self.now fuel.old ≡ (result, fuel.new)) }
+        ensures fuel { fuel.new ≤ fuel.old }
     {
         if !pay_key(key, fuel) {
             return Op::OutOfSteps;
         }
-        match self.as_key(key) {
-            Op::Done(()) => match value_of_key(key, self.pairs(dict)) {
-                Some(value) => match value.share() {
-                    Ok(value) => Op::Done(value),
-                    Err(Memory) => Op::Memory,
-                },
-                None => Op::Raises(BuiltClass::KeyError),
-            },
-            Op::Raises(class) => Op::Raises(class),
-            Op::Leaves(construct) => Op::Leaves(construct),
-            Op::OutOfSteps => Op::OutOfSteps,
-            Op::Memory => Op::Memory,
+        done!(self.as_key(key));
+        match value_of_key(key, self.pairs(dict)) {
+            Some(value) => Op::Done(made!(value.share())),
+            None => Op::Raises(BuiltClass::KeyError),
         }
     }
 
@@ -37,7 +31,7 @@ impl Objects {
     pub fn dict_put(&mut self, dict: ObjId, key: Value, value: Value, fuel: &mut Fuel) -> Op<()>
         ensures meant { UnlessMemory result (changes (dict_put dict key value) self.old fuel.old ≡ (result, self.new, fuel.new)) }
         ensures unchanged { UnlessDone result (self.new ≡ self.old) }
-        ensures sound { IsTrue (sound_world self.old) → IsTrue (sound (dicts self.old) key) → IsTrue (sound (dicts self.old) value) → IsTrue (sound_world self.new) }
+        ensures fuel { fuel.new ≤ fuel.old }
     {
         if !pay_key(&key, fuel) {
             drop(key);
@@ -45,10 +39,10 @@ impl Objects {
             return Op::OutOfSteps;
         }
         match self.as_key(&key) {
-            Op::Done(()) => match self.put_pair(dict, key, value) {
-                Ok(()) => Op::Done(()),
-                Err(Memory) => Op::Memory,
-            },
+            Op::Done(()) => {
+                made!(self.dict_put_free(dict, key, value));
+                Op::Done(())
+            }
             fault => {
                 drop(key);
                 drop(value);
@@ -57,29 +51,52 @@ impl Objects {
         }
     }
 
-    /// Takes a key's pair out and gives its value, at the key's cost and a step for each pair. A missing key raises KeyError.
+    /// The value of a key. Under a missing one another is put, at no further cost, and given.
+    pub fn dict_set_default(
+        &mut self,
+        dict: ObjId,
+        key: &Value,
+        other: &Value,
+        fuel: &mut Fuel,
+    ) -> Op<Value>
+        ensures meant { UnlessMemory result (changes (set_default dict key.now other.now) self.old fuel.old ≡ (result, self.new, fuel.new)) }
+        ensures unchanged { UnlessDone result (self.new ≡ self.old) }
+        ensures fuel { fuel.new ≤ fuel.old }
+    {
+        match self.dict_get(dict, key, fuel) {
+            Op::Raises(BuiltClass::KeyError) => Op::Done(made!(self.put_new(dict, key, other))),
+            answer => answer,
+        }
+    }
+
+    /// Removes a key's pair and gives its value, at the key's cost and a step for each pair. A missing key raises KeyError.
     pub fn dict_delete(&mut self, dict: ObjId, key: &Value, fuel: &mut Fuel) -> Op<Value>
         ensures meant { UnlessMemory result (changes (dict_delete dict key.now) self.old fuel.old ≡ (result, self.new, fuel.new)) }
         ensures unchanged { UnlessDone result (self.new ≡ self.old) }
-        ensures sound { IsTrue (sound_world self.old) → IsTrue (sound_world self.new) }
+        ensures fuel { fuel.new ≤ fuel.old }
     {
         if !pay_deletion(key, self.pairs(dict), fuel) {
             return Op::OutOfSteps;
         }
-        match self.as_key(key) {
-            Op::Done(()) => self.delete_pair(dict, key),
-            Op::Raises(class) => Op::Raises(class),
-            Op::Leaves(construct) => Op::Leaves(construct),
-            Op::OutOfSteps => Op::OutOfSteps,
-            Op::Memory => Op::Memory,
-        }
+        done!(self.as_key(key));
+        self.dict_delete_free(dict, key)
     }
 
-    /// Puts a value under what is a key, at no cost: the caller has paid for it.
-    pub fn put_pair(&mut self, dict: ObjId, key: Value, value: Value) -> Result<(), Memory>
-        ensures ok { OnOk result (self.new ≡ with_object self.old dict (put_pair key value (object_at self.old dict))) }
+    /// Puts a value under what is a key, and gives it.
+    fn put_new(&mut self, dict: ObjId, key: &Value, value: &Value) -> Result<Value, Memory>
+        ensures given { IfOk result (λ given. given ≡ value.now) }
+        ensures ok { OnOk result (self.new ≡ dict_put_free dict key.now value.now self.old) }
         ensures err { OnErr result (self.new ≡ self.old) }
-        ensures sound { IsTrue (sound_world self.old) → IsTrue (sound (dicts self.old) key) → IsTrue (sound (dicts self.old) value) → IsTrue (sound_world self.new) }
+    {
+        let given = value.share()?;
+        self.dict_put_free(dict, key.share()?, value.share()?)?;
+        Ok(given)
+    }
+
+    /// Puts a value under what is a key.
+    fn dict_put_free(&mut self, dict: ObjId, key: Value, value: Value) -> Result<(), Memory>
+        ensures ok { OnOk result (self.new ≡ dict_put_free dict key value self.old) }
+        ensures err { OnErr result (self.new ≡ self.old) }
     {
         let mut object = self.take(dict);
         let answer = put_pair(&mut object, key, value);
@@ -87,11 +104,10 @@ impl Objects {
         answer
     }
 
-    /// Takes out the pair of what is a key.
-    fn delete_pair(&mut self, dict: ObjId, key: &Value) -> Op<Value>
-        ensures meant { UnlessMemory result ((left : ℕ) → changes (on_object dict (delete_pair key.now)) self.old left ≡ (result, self.new, left)) }
+    /// Removes the pair of what is a key.
+    fn dict_delete_free(&mut self, dict: ObjId, key: &Value) -> Op<Value>
+        ensures meant { UnlessMemory result ((left : ℕ) → changes (dict_delete_free dict key.now) self.old left ≡ (result, self.new, left)) }
         ensures unchanged { UnlessDone result (self.new ≡ self.old) }
-        ensures sound { IsTrue (sound_world self.old) → IsTrue (sound_world self.new) }
     {
         let mut object = self.take(dict);
         let answer = delete_pair(&mut object, key);

@@ -1,7 +1,6 @@
 // A new dict from pairs, or from another's.
-ghost use Rattle.std.specs.Prelude.{◌≡◌, IsTrue, ◌&&◌, ◌-◌, nat_le, if◌then◌else◌, [], map, IfOk, OnErr};
-ghost use Rattle.std.specs.List.{sum_by, list_all};
-ghost use Rattle.py_meaning.specs.Worlds.{sound_world, sound, dicts};
+ghost use Rattle.std.specs.Prelude.{◌≡◌, ◌≤◌, ◌-◌, nat_le, if◌then◌else◌, [], map, IfOk, OnErr};
+ghost use Rattle.std.specs.List.{sum_by};
 ghost use Rattle.py_meaning.specs.Steps.{changes, UnlessMemory, UnlessDone};
 ghost use Rattle.py_meaning.specs.Keys.{key_cost, as_key, all_keys};
 ghost use Rattle.py_meaning.specs.Operations.{made, put_all, make_dict, dict_copy};
@@ -11,6 +10,7 @@ use crate::dicts::put_pair;
 use crate::fork::shared_pairs;
 use crate::keys::key_cost_within;
 use crate::{Object, Objects, Op, Sequence, Value};
+use py_meaning::{done, made};
 use pyn_base::{Fuel, Memory, ObjId};
 use std::alloc::Global;
 
@@ -20,47 +20,32 @@ impl Objects {
     pub fn make_dict(&mut self, pairs: &[(Value, Value)], fuel: &mut Fuel) -> Op<ObjId>
         ensures meant { UnlessMemory result (changes (make_dict pairs.now) self.old fuel.old ≡ (result, self.new, fuel.new)) }
         ensures unchanged { UnlessDone result (self.new ≡ self.old) }
-        ensures sound { IsTrue (sound_world self.old) → IsTrue (list_all (λ pair. sound (dicts self.old) pair.0 && sound (dicts self.old) pair.1) pairs.now) → IsTrue (sound_world self.new) }
+        ensures fuel { fuel.new ≤ fuel.old }
     {
         if !pay_keys(pairs, fuel) {
             return Op::OutOfSteps;
         }
-        match self.are_keys(pairs) {
-            Op::Done(()) => match self.add_dict(pairs) {
-                Ok(id) => Op::Done(id),
-                Err(Memory) => Op::Memory,
-            },
-            Op::Raises(class) => Op::Raises(class),
-            Op::Leaves(construct) => Op::Leaves(construct),
-            Op::OutOfSteps => Op::OutOfSteps,
-            Op::Memory => Op::Memory,
-        }
+        done!(self.are_keys(pairs));
+        Op::Done(made!(self.add_dict(pairs)))
     }
 
     /// A new dict with another's pairs, at a step for each.
     pub fn dict_copy(&mut self, dict: ObjId, fuel: &mut Fuel) -> Op<ObjId>
         ensures meant { UnlessMemory result (changes (dict_copy dict) self.old fuel.old ≡ (result, self.new, fuel.new)) }
         ensures unchanged { UnlessDone result (self.new ≡ self.old) }
-        ensures sound { IsTrue (sound_world self.old) → IsTrue (sound_world self.new) }
+        ensures fuel { fuel.new ≤ fuel.old }
     {
         let count = self.pairs(dict).len() as u64;
         if !fuel.take(count) {
             return Op::OutOfSteps;
         }
-        let pairs = match shared_pairs(self.alloc, self.pairs(dict)) {
-            Ok(pairs) => pairs,
-            Err(Memory) => return Op::Memory,
-        };
-        match self.make(Object::Dict(Sequence::from_vec(pairs), count)) {
-            Ok(id) => Op::Done(id),
-            Err(Memory) => Op::Memory,
-        }
+        let pairs = made!(shared_pairs(self.alloc, self.pairs(dict)));
+        Op::Done(made!(self.make(Object::Dict(Sequence::from_vec(pairs), count))))
     }
 
     fn add_dict(&mut self, pairs: &[(Value, Value)]) -> Result<ObjId, Memory>
         ensures ok { IfOk result (λ id. made (put_all pairs.now (Object.Dict [] 0)) self.old ≡ (id, self.new)) }
         ensures err { OnErr result (self.new ≡ self.old) }
-        ensures sound { IsTrue (sound_world self.old) → IsTrue (list_all (λ pair. sound (dicts self.old) pair.0 && sound (dicts self.old) pair.1) pairs.now) → IsTrue (sound_world self.new) }
     {
         let dict = dict_of(self.alloc, pairs)?;
         self.make(dict)
@@ -71,13 +56,7 @@ impl Objects {
         ensures { result ≡ all_keys (map (λ pair. as_key self.now pair.0) pairs.now) }
     {
         for pair in pairs {
-            match self.as_key(&pair.0) {
-                Op::Done(()) => {}
-                Op::Raises(class) => return Op::Raises(class),
-                Op::Leaves(construct) => return Op::Leaves(construct),
-                Op::OutOfSteps => return Op::OutOfSteps,
-                Op::Memory => return Op::Memory,
-            }
+            done!(self.as_key(&pair.0));
         }
         Op::Done(())
     }

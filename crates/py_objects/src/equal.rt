@@ -1,5 +1,5 @@
 // Equality. The recursion is as deep as the comparison limit at most, whatever refers to what.
-ghost use Rattle.std.specs.Prelude.{◌≡◌, ◌+◌, ◌-◌, nat_le, if◌then◌else◌};
+ghost use Rattle.std.specs.Prelude.{◌≡◌, ◌≤◌, ◌+◌, ◌-◌, nat_le, if◌then◌else◌};
 ghost use Rattle.py_meaning.specs.Keys.{key_cost};
 ghost use Rattle.py_meaning.specs.Equal.{equal, equal_within, parts_within, equal_refs, equal_parts, equal_pair, equal_pairs, of_one_length, equal_texts};
 
@@ -7,6 +7,7 @@ use crate::dicts::value_of_key;
 use crate::keys::key_cost_within;
 use crate::same::{is_same_single, is_same_text};
 use crate::{Object, Objects, Op, Value};
+use py_meaning::done;
 use pyn_base::{Construct, Fuel, ObjId};
 
 /// How many levels of parts are compared.
@@ -16,7 +17,8 @@ impl Objects {
     /// Whether two values are equal.
     #[tactic(auto, unfolding(py_meaning::specs::Equal::equal))]
     pub fn equal(&self, a: &Value, b: &Value, fuel: &mut Fuel) -> Op<bool>
-        ensures { equal self.now a.now b.now fuel.old ≡ (result, fuel.new) }
+        ensures meant { equal self.now a.now b.now fuel.old ≡ (result, fuel.new) }
+        ensures fuel { fuel.new ≤ fuel.old }
     {
         self.equal_within(COMPARISON_LIMIT, a, b, fuel)
     }
@@ -124,16 +126,8 @@ impl Objects {
             if !fuel.take(1) {
                 return Op::OutOfSteps;
             }
-            match self.equal_within(levels, x, y, fuel) {
-                Op::Done(same) => {
-                    if !same {
-                        return Op::Done(false);
-                    }
-                }
-                Op::Raises(class) => return Op::Raises(class),
-                Op::Leaves(construct) => return Op::Leaves(construct),
-                Op::OutOfSteps => return Op::OutOfSteps,
-                Op::Memory => return Op::Memory,
+            if !done!(self.equal_within(levels, x, y, fuel)) {
+                return Op::Done(false);
             }
         }
         Op::Done(true)
@@ -151,16 +145,8 @@ impl Objects {
         ensures { equal_pairs (equal_within levels self.now) left.now right.now fuel.old ≡ (result, fuel.new) }
     {
         for pair in right {
-            match self.equal_pair(levels, left, pair, fuel) {
-                Op::Done(same) => {
-                    if !same {
-                        return Op::Done(false);
-                    }
-                }
-                Op::Raises(class) => return Op::Raises(class),
-                Op::Leaves(construct) => return Op::Leaves(construct),
-                Op::OutOfSteps => return Op::OutOfSteps,
-                Op::Memory => return Op::Memory,
+            if !done!(self.equal_pair(levels, left, pair, fuel)) {
+                return Op::Done(false);
             }
         }
         Op::Done(true)

@@ -1,7 +1,5 @@
 // Instances: made, and their attributes and arguments written. And what empties a list or a dict.
-ghost use Rattle.std.specs.Prelude.{◌≡◌, IsTrue, IfOk, OnOk, OnErr};
-ghost use Rattle.std.specs.List.{list_all};
-ghost use Rattle.py_meaning.specs.Worlds.{sound_world, sound, sound_args, dicts};
+ghost use Rattle.std.specs.Prelude.{◌≡◌, IfOk, OnOk, OnErr};
 ghost use Rattle.py_meaning.specs.Operations.{make_instance, attr_set, set_args, clear, set_attribute, with_args, cleared};
 
 use crate::places::attribute_place;
@@ -14,7 +12,6 @@ impl Objects {
     pub fn make_instance(&mut self, class: ClassId, args: Option<PyTuple>) -> Result<ObjId, Memory>
         ensures ok { IfOk result (λ id. make_instance class args self.old ≡ (id, self.new)) }
         ensures err { OnErr result (self.new ≡ self.old) }
-        ensures sound { IsTrue (sound_world self.old) → IsTrue (sound_args (dicts self.old) args) → IsTrue (sound_world self.new) }
     {
         let attributes = Sequence::new(self.alloc);
         self.make(Object::Instance(class, attributes, args))
@@ -24,7 +21,6 @@ impl Objects {
     pub fn attr_set(&mut self, instance: ObjId, name: &Name, value: Value) -> Result<(), Memory>
         ensures ok { OnOk result (self.new ≡ attr_set instance name.now value self.old) }
         ensures err { OnErr result (self.new ≡ self.old) }
-        ensures sound { IsTrue (sound_world self.old) → IsTrue (sound (dicts self.old) value) → IsTrue (sound_world self.new) }
     {
         let mut object = self.take(instance);
         let answer = set_attribute(self.alloc, &mut object, name, value);
@@ -36,7 +32,6 @@ impl Objects {
     pub fn set_args(&mut self, instance: ObjId, args: PyTuple) -> Result<(), Memory>
         ensures ok { OnOk result (self.new ≡ set_args instance args self.old) }
         ensures err { OnErr result (self.new ≡ self.old) }
-        ensures sound { IsTrue (sound_world self.old) → IsTrue (list_all (sound (dicts self.old)) args) → IsTrue (sound_world self.new) }
     {
         let mut object = self.take(instance);
         let answer = with_args(&mut object, args);
@@ -48,7 +43,6 @@ impl Objects {
     pub fn clear(&mut self, id: ObjId) -> Result<(), Memory>
         ensures ok { OnOk result (self.new ≡ clear id self.old) }
         ensures err { OnErr result (self.new ≡ self.old) }
-        ensures sound { IsTrue (sound_world self.old) → IsTrue (sound_world self.new) }
     {
         let mut object = self.take(id);
         let answer = cleared(&mut object);

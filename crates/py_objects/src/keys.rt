@@ -6,6 +6,7 @@ ghost use Rattle.py_objects.specs.Within.{within};
 
 use crate::same::is_same_single;
 use crate::{Object, Objects, Op, Value};
+use py_meaning::done;
 use pyn_base::{BuiltClass, Construct, Fuel};
 
 /// A cost, unless it is above the limit.
@@ -121,13 +122,7 @@ impl Objects {
         ensures { result ≡ all_keys (map (as_key self.now) parts.now) }
     {
         for part in parts {
-            match self.as_key(part) {
-                Op::Done(()) => {}
-                Op::Raises(class) => return Op::Raises(class),
-                Op::Leaves(construct) => return Op::Leaves(construct),
-                Op::OutOfSteps => return Op::OutOfSteps,
-                Op::Memory => return Op::Memory,
-            }
+            done!(self.as_key(part));
         }
         Op::Done(())
     }

@@ -9,26 +9,25 @@
 #![tactic(auto)]
 
 mod add;
-mod depth;
+mod collect;
 mod dicts;
 mod displays;
 mod equal;
+mod find;
 mod fork;
 mod instances;
 mod keys;
 mod lists;
-mod made_of;
 mod objects;
 mod order;
-mod paid;
 mod payment;
 mod places;
-mod places_of;
 mod ranges;
 mod same;
 #[cfg(test)]
 mod tests;
 mod truth;
+mod unpaid;
 mod walk;
 
 pub use lists::shared_all;

@@ -1,8 +1,8 @@
 // The table itself, and what is read of it.
-ghost use Rattle.std.specs.Prelude.{◌≡◌, IsTrue, [], length, take, slice_get, IfOk, OnErr};
+ghost use Rattle.std.specs.Prelude.{◌≡◌, [], length, take, slice_get, IfOk, OnErr};
 ghost use Rattle.std.specs.Option.{option_copied, option_map};
 ghost use Rattle.py_meaning.specs.Lists.{read_pair};
-ghost use Rattle.py_meaning.specs.Worlds.{sound_world, sound_object, dicts, object_at, with_object, elements, pairs, attributes};
+ghost use Rattle.py_meaning.specs.Worlds.{object_at, with_object, elements, pairs, attributes};
 ghost use Rattle.py_meaning.specs.Operations.{made, kind_of, size_of, key_changes_of, args_of, list_get, attr_get};
 
 use crate::places::{attribute_place, index_place};
@@ -60,14 +60,13 @@ impl Objects {
     pub(crate) fn make(&mut self, object: Object) -> Result<ObjId, Memory>
         ensures ok { IfOk result (λ id. made object self.old ≡ (id, self.new)) }
         ensures err { OnErr result (self.new ≡ self.old) }
-        ensures sound { IsTrue (sound_world self.old) → IsTrue (sound_object (dicts self.old) object) → IsTrue (sound_world self.new) }
     {
         let id = ObjId(self.objects.len() as u64);
         self.objects.push(object)?;
         Ok(id)
     }
 
-    /// Takes an object out, so that it can be changed and put back.
+    /// An object, so that it can be changed and put back. An empty list is in its place until then.
     pub(crate) fn take(&mut self, id: ObjId) -> Object
         ensures object { result ≡ object_at self.old id }
         ensures rest { self.new ≡ with_object self.old id (Object.List []) }

@@ -1,18 +1,20 @@
 // The orderings. The recursion is as deep as the comparison limit at most.
-ghost use Rattle.std.specs.Prelude.{◌≡◌, ℕ};
+ghost use Rattle.std.specs.Prelude.{◌≡◌, ◌≤◌, ℕ};
 ghost use Rattle.py_meaning.specs.Less.{holds, ordered, ordered_within, order_within, ordered_parts, ordered_numbers, ordered_refs, ordered_texts};
 ghost use Rattle.py_meaning.specs.Equal.{equal_within};
 
 use crate::equal::COMPARISON_LIMIT;
 use crate::same::{is_view, number};
 use crate::{Object, Objects, Op, Order, Value};
+use py_meaning::done;
 use pyn_base::{BuiltClass, Construct, Fuel, ObjId, PyInt};
 use std::cmp::Ordering;
 
 impl Objects {
     /// Whether one value is less than another.
     pub fn less(&self, a: &Value, b: &Value, fuel: &mut Fuel) -> Op<bool>
-        ensures { ordered self.now Order.Less a.now b.now fuel.old ≡ (result, fuel.new) }
+        ensures meant { ordered self.now Order.Less a.now b.now fuel.old ≡ (result, fuel.new) }
+        ensures fuel { fuel.new ≤ fuel.old }
     {
         self.order(Order::Less, a, b, fuel)
     }
@@ -20,7 +22,8 @@ impl Objects {
     /// Whether an ordering holds of two values.
     #[tactic(auto, unfolding(py_meaning::specs::Less::ordered))]
     pub fn order(&self, order: Order, a: &Value, b: &Value, fuel: &mut Fuel) -> Op<bool>
-        ensures { ordered self.now order a.now b.now fuel.old ≡ (result, fuel.new) }
+        ensures meant { ordered self.now order a.now b.now fuel.old ≡ (result, fuel.new) }
+        ensures fuel { fuel.new ≤ fuel.old }
     {
         self.ordered_within(COMPARISON_LIMIT, order, a, b, fuel)
     }
@@ -132,16 +135,8 @@ impl Objects {
             if !fuel.take(1) {
                 return Op::OutOfSteps;
             }
-            match self.equal_within(levels, x, y, fuel) {
-                Op::Done(same) => {
-                    if !same {
-                        return self.ordered_within(levels, order, x, y, fuel);
-                    }
-                }
-                Op::Raises(class) => return Op::Raises(class),
-                Op::Leaves(construct) => return Op::Leaves(construct),
-                Op::OutOfSteps => return Op::OutOfSteps,
-                Op::Memory => return Op::Memory,
+            if !done!(self.equal_within(levels, x, y, fuel)) {
+                return self.ordered_within(levels, order, x, y, fuel);
             }
         }
         Op::Done(holds(order, xs.len().cmp(&ys.len())))

@@ -93,7 +93,7 @@ fn next(at: PyInt, step: PyInt) -> PyInt
     }
 }
 
-fn int(n: i64) -> PyInt
+pub(crate) fn int(n: i64) -> PyInt
     ensures { result ≡ n }
 {
     match PyInt::new(n as i128) {

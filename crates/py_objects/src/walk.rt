@@ -1,23 +1,25 @@
 // What is walked: the items of lists and tuples, the characters of strings, dicts and views.
-ghost use Rattle.std.specs.Prelude.{◌≡◌, ◌∷◌, [], ℕ, length, IfOk};
+ghost use Rattle.std.specs.Prelude.{◌≡◌, ◌≤◌, ◌∷◌, [], ℕ, length, IfOk};
 ghost use Rattle.std.specs.Option.{option_map};
 ghost use Rattle.py_meaning.specs.Steps.{UnlessMemory};
-ghost use Rattle.py_meaning.specs.Values.{range_length};
-ghost use Rattle.py_meaning.specs.Walk.{walk, walked, walked_view, counted, keys_of, values_of, items_of, characters_of, taken, gives_new_tuples};
-ghost use Rattle.py_meaning.specs.declared.value.Value.{out-Value};
-ghost use Rattle.py_objects.specs.Within.{or_empty};
+ghost use Rattle.py_meaning.specs.Tuples.{measured_within_limit};
+ghost use Rattle.py_meaning.specs.Walk.{walk, walked, walked_view, keys_of, values_of, items_of, characters_of, gives_new_tuples};
+ghost use Rattle.py_meaning.specs.declared.value.Value.{out-Value, Value-F};
+ghost use Rattle.py_objects.specs.Within.{or_empty, unless_deep};
 
-use crate::depth::are_shallow;
 use crate::lists::shared_all;
 use crate::ranges::{counted, range_length};
 use crate::{Object, Objects, Op, PyStr, PyTuple, Sequence, Value, View};
+use py_meaning::made;
 use pyn_base::{BuiltClass, Construct, Fuel, Memory};
 use std::alloc::Global;
 
 impl Objects {
     /// The elements of what is walked, at a step for each. One that would be too deep a tuple leaves.
+    #[tactic(auto, using(crate::proofs::Walks::walked_meant))]
     pub fn walk(&self, value: &Value, fuel: &mut Fuel) -> Op<Sequence<Value>>
-        ensures { UnlessMemory result (walk self.now value.now fuel.old ≡ (result, fuel.new)) }
+        ensures meant { UnlessMemory result (walk self.now value.now fuel.old ≡ (result, fuel.new)) }
+        ensures fuel { fuel.new ≤ fuel.old }
     {
         let Some(count) = self.length(value) else {
             return Op::Raises(BuiltClass::TypeError);
@@ -25,9 +27,9 @@ impl Objects {
         if !fuel.take(count) {
             return Op::OutOfSteps;
         }
-        match self.walked(value) {
-            Ok(items) => taken(gives_new_tuples(value), items),
-            Err(Memory) => Op::Memory,
+        match made!(self.walked(value)) {
+            Some(items) => Op::Done(Sequence::from_vec(items)),
+            None => Op::Leaves(Construct::TupleDepth),
         }
     }
 
@@ -62,34 +64,34 @@ impl Objects {
         }
     }
 
-    /// The elements, or none where a value isn't walked.
+    /// The elements, of which there are none where a value isn't walked. `None` where one that the walk makes is too deep a tuple.
     #[tactic(auto, using(py_meaning::specs::Folds::views))]
-    pub(crate) fn walked(&self, value: &Value) -> Result<Vec<Value>, Memory>
-        ensures { IfOk result (λ items. items.items ≡ or_empty (walked self.now value.now)) }
+    pub(crate) fn walked(&self, value: &Value) -> Result<Option<Vec<Value>>, Memory>
+        ensures { IfOk result (λ items. option_map (λ v. v.items) items ≡ unless_deep (gives_new_tuples (out-Value value.now)) (or_empty (walked self.now value.now))) }
     {
-        match value {
-            Value::Str(s) => characters_of(self.alloc, s.as_slice()),
-            Value::Tuple(parts) => shared_all(self.alloc, parts.as_slice()),
+        Ok(match value {
+            Value::Str(s) => Some(characters_of(self.alloc, s.as_slice())?),
+            Value::Tuple(tuple) => Some(shared_all(self.alloc, tuple.as_slice())?),
             Value::Ref(id) => match self.object(*id) {
-                None => Ok(Vec::new(self.alloc)),
-                Some(Object::List(items)) => shared_all(self.alloc, items.as_slice()),
-                Some(Object::Dict(pairs, _)) => keys_of(self.alloc, pairs.as_slice()),
-                Some(Object::Instance(_, _, _)) => Ok(Vec::new(self.alloc)),
+                None => Some(Vec::new(self.alloc)),
+                Some(Object::List(items)) => Some(shared_all(self.alloc, items.as_slice())?),
+                Some(Object::Dict(pairs, _)) => Some(keys_of(self.alloc, pairs.as_slice())?),
+                Some(Object::Instance(_, _, _)) => Some(Vec::new(self.alloc)),
             },
-            Value::View(view) => self.walked_view(*view),
-            _ => Ok(Vec::new(self.alloc)),
-        }
+            Value::View(view) => self.walked_view(*view)?,
+            _ => Some(Vec::new(self.alloc)),
+        })
     }
 
-    fn walked_view(&self, view: View) -> Result<Vec<Value>, Memory>
-        ensures { IfOk result (λ items. items.items ≡ walked_view self.now view) }
+    fn walked_view(&self, view: View) -> Result<Option<Vec<Value>>, Memory>
+        ensures { IfOk result (λ items. option_map (λ v. v.items) items ≡ unless_deep (gives_new_tuples {Value} (Value-F.View view)) (walked_view self.now view)) }
     {
-        match view {
-            View::Range(start, stop, step) => counted(self.alloc, start, stop, step),
-            View::Keys(dict) => keys_of(self.alloc, self.pairs(dict)),
-            View::Values(dict) => values_of(self.alloc, self.pairs(dict)),
-            View::Items(dict) => items_of(self.alloc, self.pairs(dict)),
-        }
+        Ok(match view {
+            View::Range(start, stop, step) => Some(counted(self.alloc, start, stop, step)?),
+            View::Keys(dict) => Some(keys_of(self.alloc, self.pairs(dict))?),
+            View::Values(dict) => Some(values_of(self.alloc, self.pairs(dict))?),
+            View::Items(dict) => items_of(self.alloc, self.pairs(dict))?,
+        })
     }
 }
 
@@ -101,18 +103,6 @@ pub(crate) fn gives_new_tuples(value: &Value) -> bool
     match value {
         Value::View(view) => matches!(view, View::Items(_)),
         _ => false,
-    }
-}
-
-/// The elements, unless one that the walk makes is too deep a tuple.
-fn taken(made: bool, items: Vec<Value>) -> Op<Sequence<Value>>
-    ensures { (left : ℕ) → taken made items.items left ≡ (result, left) }
-{
-    if !made || are_shallow(items.as_slice()) {
-        Op::Done(Sequence::from_vec(items))
-    } else {
-        drop(items);
-        Op::Leaves(Construct::TupleDepth)
     }
 }
 
@@ -148,22 +138,26 @@ fn values_of(alloc: Global, pairs: &[(Value, Value)]) -> Result<Vec<Value>, Memo
     Ok(items)
 }
 
-/// Each pair as a tuple.
-fn items_of(alloc: Global, pairs: &[(Value, Value)]) -> Result<Vec<Value>, Memory>
-    ensures { IfOk result (λ items. items.items ≡ items_of pairs.now) }
+/// Each pair as a tuple, unless one is too deep.
+#[tactic(auto, using(crate::proofs::Walks::item_made, crate::proofs::Walks::item_too_deep))]
+fn items_of(alloc: Global, pairs: &[(Value, Value)]) -> Result<Option<Vec<Value>>, Memory>
+    ensures { IfOk result (λ items. option_map (λ v. v.items) items ≡ unless_deep true (items_of pairs.now)) }
 {
     let mut items = Vec::new(alloc);
     for pair in pairs {
-        items.push(Value::Tuple(pair_of(alloc, &pair.0, &pair.1)?))?;
+        match pair_of(alloc, &pair.0, &pair.1)? {
+            Some(tuple) => items.push(Value::Tuple(tuple))?,
+            None => return Ok(None),
+        }
     }
-    Ok(items)
+    Ok(Some(items))
 }
 
-fn pair_of(alloc: Global, key: &Value, value: &Value) -> Result<PyTuple, Memory>
-    ensures { IfOk result (λ pair. pair ≡ key.now ∷ value.now ∷ []) }
+fn pair_of(alloc: Global, key: &Value, value: &Value) -> Result<Option<PyTuple>, Memory>
+    ensures { IfOk result (λ pair. pair ≡ measured_within_limit (key.now ∷ value.now ∷ [])) }
 {
     let mut parts = Vec::new(alloc);
     parts.push(key.share()?)?;
     parts.push(value.share()?)?;
-    PyTuple::from_vec(alloc, parts)
+    PyTuple::new(alloc, parts)
 }

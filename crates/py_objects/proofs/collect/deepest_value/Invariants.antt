@@ -1,0 +1,7 @@
+use Rattle.std.proofs.Common.{◌≡◌, max, map, drop}
+use Rattle.py_meaning.specs.Tuples.{depth, deepest}
+use Rattle.py_meaning.specs.Walk.{values_of}
+use Rattle.py_objects.proofs.collect.deepest_value.Given as goal
+
+abbrev pub invariant-loop-pair : goal.invariant-loop-pair
+invariant-loop-pair l = max l.found (deepest (map depth (values_of (drop l.pair-index l.pairs)))) ≡ deepest (map depth (values_of l.pairs))

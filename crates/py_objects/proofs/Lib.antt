@@ -5,3 +5,4 @@ pub mod Depths
 pub mod Sums
 pub mod Counting
 pub mod Walks
+pub mod Tupled

@@ -42,7 +42,7 @@ settled world id op.Memory left = ap (λ w. (op.Memory, w, left)) (sym (keeps wo
 pub changes_on_object : {A : Type 0} (id : ObjId) (change : Change Object A) (world : World) (left : ℕ) → changes (on_object id change) world left ≡ placed world id (changes change (object_at world id) left)
 changes_on_object id change world left = settled world id (change (object_at world id) left).0 (change (object_at world id) left).1
 
-unless_memory : {A : Type 0} {P Q : Type 0} (answer : Op A) → (P → Q) → UnlessMemory answer P → UnlessMemory answer Q
+pub unless_memory : {A : Type 0} {P Q : Type 0} (answer : Op A) → (P → Q) → UnlessMemory answer P → UnlessMemory answer Q
 unless_memory (op.Done a) f p = f p
 unless_memory (op.Raises class) f p = f p
 unless_memory (op.Leaves construct) f p = f p
@@ -73,8 +73,11 @@ module _ (id : ObjId) (world taken after : World) (held held' : Object) (was : h
   pub unwritten : {A : Type 0} (answer : Op A) → UnlessDone answer (held' ≡ held) → UnlessDone answer (after ≡ world)
   unwritten answer = unless_done answer stays
 
+  pub changed : (f : Object → Object) → held' ≡ f held → after ≡ with_object world id (f (object_at world id))
+  changed f e = put_back ∙ ap (with_object world id) (e ∙ ap f was)
+
   pub rewritten : {E : Type 0} (f : Object → Object) (answer : Result (Unit {0}) E) → OnOk answer (held' ≡ f held) → OnOk answer (after ≡ with_object world id (f (object_at world id)))
-  rewritten f (Ok a) e = put_back ∙ ap (with_object world id) (e ∙ ap f was)
+  rewritten f (Ok a) e = changed f e
   rewritten f (Err a) e = tt
 
   pub not_rewritten : {E : Type 0} (answer : Result (Unit {0}) E) → OnErr answer (held' ≡ held) → OnErr answer (after ≡ world)

@@ -1,7 +1,7 @@
 // New lists and tuples of what is walked.
-ghost use Rattle.std.specs.Prelude.{◌≡◌, ◌≤◌, ◌&&◌, not, map, nat_le};
+ghost use Rattle.std.specs.Prelude.{◌≡◌, ◌≤◌, ℕ, ◌&&◌, true, false, not, map, nat_le, IfOk};
 ghost use Rattle.py_meaning.specs.Steps.{changes, UnlessMemory, UnlessDone};
-ghost use Rattle.py_meaning.specs.Tuples.{depth, deepest, depth_over, tuple_limit};
+ghost use Rattle.py_meaning.specs.Tuples.{depth, deepest, depth_over, tuple_limit, new_tuple};
 ghost use Rattle.py_meaning.specs.Worlds.{object_at};
 ghost use Rattle.py_meaning.specs.Walk.{walked, walked_object, walked_view, keys_of, values_of, items_of, gives_new_tuples, shallow};
 ghost use Rattle.py_meaning.specs.declared.value.Value.{out-Value};
@@ -11,7 +11,7 @@ ghost use Rattle.py_objects.specs.Within.{or_empty};
 use crate::walk::gives_new_tuples;
 use crate::{Object, Objects, Op, Value, View};
 use py_meaning::{TUPLE_LIMIT, deepest, made, new_tuple};
-use pyn_base::{BuiltClass, Construct, Fuel, ObjId};
+use pyn_base::{BuiltClass, Construct, Fuel, Memory, ObjId};
 
 impl Objects {
     /// A new list of what is walked, at a step for each element. A tuple that the walk makes and that is too deep leaves before
@@ -30,9 +30,7 @@ impl Objects {
         if !fuel.take(count) {
             return Op::OutOfSteps;
         }
-        let Some(items) = made!(self.walked(value)) else {
-            unreachable!()
-        };
+        let items = made!(self.collected(value));
         Op::Done(Value::Ref(made!(self.new_list(items))))
     }
 
@@ -50,10 +48,28 @@ impl Objects {
         if !fuel.take(count) {
             return Op::OutOfSteps;
         }
-        let Some(items) = made!(self.walked(value)) else {
-            unreachable!()
-        };
+        self.tuple_of_parts(value)
+    }
+
+    /// The tuple of what is walked, where it isn't too deep.
+    fn tuple_of_parts(&self, value: &Value) -> Op<Value>
+        requires { nat_le (depth_over (or_empty (walked self.now value.now))) tuple_limit ≡ true }
+        ensures { UnlessMemory result ((left : ℕ) → new_tuple (or_empty (walked self.now value.now)) left ≡ (result, left)) }
+    {
+        let items = made!(self.collected(value));
         new_tuple(self.alloc, items)
+    }
+
+    /// What is walked, where the walk makes no tuple that is too deep.
+    #[tactic(auto, using(crate::proofs::Walks::kept))]
+    fn collected(&self, value: &Value) -> Result<Vec<Value>, Memory>
+        requires { (gives_new_tuples (out-Value value.now) && not (shallow (or_empty (walked self.now value.now)))) ≡ false }
+        ensures { IfOk result (λ items. items.items ≡ or_empty (walked self.now value.now)) }
+    {
+        match self.walked(value)? {
+            Some(items) => Ok(items),
+            None => unreachable!(),
+        }
     }
 
     /// Whether the walk makes a tuple that is too deep.

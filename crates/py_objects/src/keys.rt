@@ -22,7 +22,7 @@ fn within(cost: u64, limit: u32) -> Option<u32>
 
 /// What a key costs, unless that is above the limit.
 #[cycle(key_cost)]
-#[tactic(auto, using(py_meaning::specs::Folds::levels, py_meaning::proofs::Folds::views))]
+#[tactic(auto, using(py_meaning::specs::Folds::levels, py_meaning::specs::Folds::views))]
 pub(crate) fn key_cost_within(key: &Value, limit: u32) -> Option<u32>
     ensures { result ≡ within (key_cost key.now) limit }
 {
@@ -63,7 +63,7 @@ pub(crate) fn pay_key(key: &Value, fuel: &mut Fuel) -> bool
 
 /// Whether two keys are the same, so True is 1.
 #[cycle(same_key)]
-#[tactic(auto, using(py_meaning::specs::Folds::same_keys, py_meaning::proofs::Folds::views))]
+#[tactic(auto, using(py_meaning::specs::Folds::same_keys, py_meaning::specs::Folds::views))]
 pub(crate) fn is_same_key(a: &Value, b: &Value) -> bool
     ensures { result ≡ same_key a.now b.now }
 {
@@ -101,12 +101,12 @@ pub(crate) fn key_place(key: &Value, pairs: &[(Value, Value)]) -> Option<usize>
 impl Objects {
     /// Whether a value is a key: `Done` where it is one, and else why not.
     #[cycle(as_key)]
-    #[tactic(auto, using(py_meaning::specs::Folds::as_keys, py_meaning::proofs::Folds::views))]
+    #[tactic(auto, using(py_meaning::specs::Folds::as_keys, py_meaning::specs::Folds::views))]
     pub(crate) fn as_key(&self, key: &Value) -> Op<()>
         ensures { result ≡ as_key self.now key.now }
     {
         match key {
-            Value::Tuple(parts) => self.all_keys(parts.as_slice()),
+            Value::Tuple(tuple) => self.all_keys(tuple.as_slice()),
             Value::Ref(id) => match self.object(*id) {
                 Some(Object::Instance(_, _, _)) => Op::Done(()),
                 _ => Op::Raises(BuiltClass::TypeError),

@@ -1,6 +1,7 @@
 // Lists: made, written, grown and shortened, at their costs.
 ghost use Rattle.std.specs.Prelude.{◌≡◌, ◌≤◌, ℕ, IfOk};
 ghost use Rattle.py_meaning.specs.Steps.{changes, UnlessMemory, UnlessDone};
+ghost use Rattle.py_meaning.specs.Worlds.{object_at, with_object};
 ghost use Rattle.py_meaning.specs.Operations.{make_list, list_set, set_item, list_insert, list_remove, list_extend, list_pop, list_reverse, turned};
 
 use crate::places::index_place;
@@ -93,10 +94,16 @@ impl Objects {
         if !fuel.take(self.elements(list).len() as u64) {
             return Op::OutOfSteps;
         }
+        self.turn(list);
+        Op::Done(())
+    }
+
+    fn turn(&mut self, list: ObjId)
+        ensures { self.new ≡ with_object self.old list (turned (object_at self.old list)) }
+    {
         let mut object = self.take(list);
         turned(&mut object);
         self.put(list, object);
-        Op::Done(())
     }
 
     /// Puts items at the end, at a step for each.

@@ -1,10 +1,10 @@
 // What is walked: the items of lists and tuples, the characters of strings, dicts and views.
-ghost use Rattle.std.specs.Prelude.{◌≡◌, ◌≤◌, ◌∷◌, [], ℕ, length, IfOk};
+ghost use Rattle.std.specs.Prelude.{◌≡◌, ◌≤◌, ◌∷◌, [], true, length, IfOk};
 ghost use Rattle.std.specs.Option.{option_map};
 ghost use Rattle.py_meaning.specs.Steps.{UnlessMemory};
 ghost use Rattle.py_meaning.specs.Tuples.{measured_within_limit};
 ghost use Rattle.py_meaning.specs.Walk.{walk, walked, walked_view, keys_of, values_of, items_of, characters_of, gives_new_tuples};
-ghost use Rattle.py_meaning.specs.declared.value.Value.{out-Value, Value-F};
+ghost use Rattle.py_meaning.specs.declared.value.Value.{out-Value};
 ghost use Rattle.py_objects.specs.Within.{or_empty, unless_deep};
 
 use crate::lists::shared_all;
@@ -16,7 +16,6 @@ use std::alloc::Global;
 
 impl Objects {
     /// The elements of what is walked, at a step for each. One that would be too deep a tuple leaves.
-    #[tactic(auto, using(crate::proofs::Walks::walked_meant))]
     pub fn walk(&self, value: &Value, fuel: &mut Fuel) -> Op<Sequence<Value>>
         ensures meant { UnlessMemory result (walk self.now value.now fuel.old ≡ (result, fuel.new)) }
         ensures fuel { fuel.new ≤ fuel.old }
@@ -83,8 +82,9 @@ impl Objects {
         })
     }
 
+    #[tactic(auto, using(py_meaning::specs::Folds::views))]
     fn walked_view(&self, view: View) -> Result<Option<Vec<Value>>, Memory>
-        ensures { IfOk result (λ items. option_map (λ v. v.items) items ≡ unless_deep (gives_new_tuples {Value} (Value-F.View view)) (walked_view self.now view)) }
+        ensures { IfOk result (λ items. option_map (λ v. v.items) items ≡ unless_deep (gives_new_tuples (out-Value (Value.View view))) (walked_view self.now view)) }
     {
         Ok(match view {
             View::Range(start, stop, step) => Some(counted(self.alloc, start, stop, step)?),
@@ -139,7 +139,6 @@ fn values_of(alloc: Global, pairs: &[(Value, Value)]) -> Result<Vec<Value>, Memo
 }
 
 /// Each pair as a tuple, unless one is too deep.
-#[tactic(auto, using(crate::proofs::Walks::item_made, crate::proofs::Walks::item_too_deep))]
 fn items_of(alloc: Global, pairs: &[(Value, Value)]) -> Result<Option<Vec<Value>>, Memory>
     ensures { IfOk result (λ items. option_map (λ v. v.items) items ≡ unless_deep true (items_of pairs.now)) }
 {

@@ -19,5 +19,5 @@ made_of xs count fuel left answer n low enough rest made =
 
 pub tupled_paid : (found : Option (List Value)) (count fuel left : ℕ) (answer : Op Value) → option_map length found ≡ Some count → nat_le (depth_over (or_empty found)) tuple_limit ≡ true → true ≡ nat_le count fuel
     → left ≡ (if nat_le count fuel then fuel - count else fuel) → UnlessMemory answer ((n : ℕ) → new_tuple (or_empty found) n ≡ (answer, n)) → UnlessMemory answer (tupled found fuel ≡ (answer, left))
-tupled_paid None count fuel left answer e = cc
-tupled_paid (Some xs) count fuel left answer e low enough rest = unless_memory answer (λ made. made_of xs count fuel left answer cc low enough rest (made left))
+tupled_paid None count fuel left answer e low enough rest = cc
+tupled_paid (Some xs) count fuel left answer e low enough rest = let n : length xs ≡ count = cc in unless_memory answer (λ made. made_of xs count fuel left answer n low enough rest (made left))

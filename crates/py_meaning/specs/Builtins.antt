@@ -200,7 +200,7 @@ range_row (start ∷ stop ∷ []) = range_of (number_of (out-Value start)) (numb
 range_row (start ∷ stop ∷ step ∷ []) = range_of (number_of (out-Value start)) (number_of (out-Value stop)) (number_of (out-Value step))
 range_row _ = raises TypeError
 
--- A call of a built-in function or type. `isinstance` isn't among them: it asks for the module's classes, which stand in no world.
+-- A call of a built-in function or type. `isinstance` isn't among them: it asks for the module's classes, which are in no world.
 abbrev pub call_builtin : Builtin → List Value → Change World Value
 call_builtin builtin.Len args = reading (len_row args)
 call_builtin builtin.Abs args = aside (abs_row args)

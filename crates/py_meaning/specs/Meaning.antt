@@ -16,7 +16,7 @@ use Rattle.py_meaning.specs.declared.value.Value.{Value}
 use Rattle.py_meaning.specs.declared.value.Value.TheVariants as v
 use Rattle.py_meaning.specs.Run.{State, Stop, Returned, OutOfSteps, Left, Run, ◌>>=◌, ◌>>◌, pure, stop, begins}
 
--- the value of a name in a list of bindings, of which the newest stands first
+-- the value of a name in a list of bindings, the newest first
 abbrev pub lookup : List (List ℕ × Value) → List ℕ → Option Value
 lookup [] name = None
 lookup (bound ∷ rest) name = if bytes_eq bound.0 name then Some bound.1 else lookup rest name

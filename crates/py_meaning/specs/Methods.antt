@@ -20,7 +20,7 @@ use Rattle.py_meaning.specs.ListMethods.{list_method}
 use Rattle.py_meaning.specs.DictMethods.{dict_method}
 use Rattle.py_meaning.specs.TextMethods.{text_method}
 
--- what stands under a name in a table
+-- what a table has under a name
 abbrev pub Names : Type 0 → Type 0
 Names M = List (List ℕ × M)
 

@@ -54,7 +54,7 @@ abbrev pub index_place : ℤ → ℕ → Option ℕ
 index_place (pos at) count = if nat_lt at count then Some at else None
 index_place (negsuc back) count = if nat_lt back count then Some (count - (back + 1)) else None
 
--- The same for an insertion: before the first is at the first, and after the last behind it.
+-- The same for an insertion: before the first is at the first, and after the last is at the end.
 abbrev pub insert_place : ℤ → ℕ → ℕ
 insert_place (pos at) count = min at count
 insert_place (negsuc back) count = count - (back + 1)

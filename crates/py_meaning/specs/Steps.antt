@@ -1,5 +1,5 @@
 -- Answers and the steps that they cost.
-use Rattle.std.specs.Prelude.{ℕ, ◌-◌, nat_le, if◌then◌else◌}
+use Rattle.std.specs.Prelude.{◌≡◌, ◌≤◌, ℕ, ◌-◌, nat_le, if◌then◌else◌}
 use Rattle.pyn_base.specs.declared.class.BuiltClass.{BuiltClass}
 use Rattle.pyn_base.specs.declared.construct.Construct.{Construct}
 use Rattle.py_meaning.specs.declared.op.Op.{Op}
@@ -59,7 +59,7 @@ settle s op.Memory left = (op.Memory, s, left)
 abbrev pub changes : {S A : Type 0} → Change S A → S → ℕ → Op A × S × ℕ
 changes change s left = settle s (change s left).0 (change s left).1
 
--- a fact about an answer, but for want of memory, of which nothing is said
+-- a fact about an answer, but for out of memory, of which nothing is said
 abbrev pub UnlessMemory : {A : Type 0} → Op A → Type 0 → Type 0
 UnlessMemory (op.Done a) P = P
 UnlessMemory (op.Raises class) P = P
@@ -74,3 +74,19 @@ UnlessDone (op.Raises class) P = P
 UnlessDone (op.Leaves construct) P = P
 UnlessDone op.OutOfSteps P = P
 UnlessDone op.Memory P = P
+
+-- What a call does that is paid for: the change, from its answer and the steps before it and after. After any answer but what is done all is
+-- as it was, and after every answer, also out of memory, the steps are no more than before.
+abbrev pub Does : {S A : Type 0} → Change S A → S → ℕ → Op A → S → ℕ → Type 0
+Does change old had result new left = record {
+  meant : UnlessMemory result (changes change old had ≡ (result, new, left));
+  unchanged : UnlessDone result (new ≡ old);
+  fuel : left ≤ had;
+}
+
+-- The same of a call that costs nothing.
+abbrev pub DoesFree : {S A : Type 0} → Change S A → S → Op A → S → Type 0
+DoesFree change old result new = record {
+  meant : UnlessMemory result ((left : ℕ) → changes change old left ≡ (result, new, left));
+  unchanged : UnlessDone result (new ≡ old);
+}

@@ -1,4 +1,4 @@
--- The methods of strings (the manual, "String Methods"), one equation a row. n stands for the receiver's length.
+-- The methods of strings (the manual, "String Methods"), one equation a row. n is the receiver's length.
 use Rattle.std.specs.Prelude.{ℕ, ◌+◌, pos, negsuc, Bool, if◌then◌else◌, List, [], ◌∷◌, length, map, Option, Some, None}
 use Rattle.pyn_base.specs.declared.class.BuiltClass.TheVariants.{TypeError, ValueError}
 use Rattle.pyn_base.specs.declared.construct.Construct.TheVariants as construct

@@ -10,17 +10,17 @@ begins_with text part = starts_with (λ a b. a == b) text part
 abbrev pub finishes_with : List ℕ → List ℕ → Bool
 finishes_with text part = ends_with (λ a b. a == b) text part
 
--- The first place at which a text stands in another. The empty text stands at the front.
+-- The first place at which a text is in another. The empty text is at the front.
 abbrev pub first_place : List ℕ → List ℕ → Option ℕ
 first_place part [] = if begins_with [] part then Some 0 else None
 first_place part (c ∷ text) = if begins_with (c ∷ text) part then Some 0 else option_map suc (first_place part text)
 
--- a text at the place of another: what stands before it, and the pieces of what stands behind it
+-- a text at the place of another: what is before it, and the pieces of what is after it
 abbrev pub cut_once : (List ℕ → List (List ℕ)) → ℕ → List ℕ → Option ℕ → List (List ℕ)
 cut_once others size text None = text ∷ []
 cut_once others size text (Some at) = take at text ∷ others (drop (at + size) text)
 
--- What stands between the places of a text that isn't empty, found from the left. No text has more of them than characters.
+-- What is between the places of a text that isn't empty, found from the left. No text has more of them than characters.
 abbrev pub pieces_within : ℕ → List ℕ → List ℕ → List (List ℕ)
 pieces_within zero part text = text ∷ []
 pieces_within (suc most) part text = cut_once (pieces_within most part) (length part) text (first_place part text)
@@ -32,7 +32,7 @@ pieces part text = pieces_within (length text) part text
 abbrev pub joined : List ℕ → List (List ℕ) → List ℕ
 joined between texts = join_by (λ text. text) between texts
 
--- the empty text stands before each character and at the end
+-- the empty text is before each character and at the end
 abbrev pub put_everywhere : List ℕ → List ℕ → List ℕ
 put_everywhere new text = flat_map (λ c. new ++ c ∷ []) text ++ new
 
@@ -48,7 +48,7 @@ is_space c = c == 32 || (nat_le 9 c && nat_le c 13)
 abbrev pub is_blank : ℕ → Bool
 is_blank c = is_space c || (nat_le 28 c && nat_le c 31)
 
--- what stands between runs of blanks
+-- what is between runs of blanks
 abbrev pub words : List ℕ → List (List ℕ)
 words text = filter is_filled (slice_split is_blank text)
 

@@ -40,7 +40,7 @@ truth_by world (Value-F.Ref id) = object_truth (object_at world id)
 truth_by world (Value-F.View view) = view_truth world view
 truth_by world _ = true
 
--- False are None, False, 0 and everything of length nought.
+-- False are None, False, 0 and everything of length 0.
 abbrev pub truth : World → Value → Bool
 truth world x = truth_by world (out-Value x)
 

@@ -1,4 +1,4 @@
-// Worked examples of the words on texts and numerals, which show that they mean what the manual says.
+// Worked examples of the definitions of texts and numerals, which show that they mean what the manual says.
 ghost use Rattle.std.specs.Prelude.{◌≡◌, pos, negsuc, true, false, [], ◌∷◌, Some, None, codes, map};
 ghost use Rattle.py_meaning.specs.Texts.{begins_with, finishes_with, first_place, pieces, joined, replaced, words, stripped, is_blank, is_one_of, are_digits, upper};
 ghost use Rattle.py_meaning.specs.Numerals.{is_numeral, integer_spelled, integer_text};

@@ -1,4 +1,4 @@
-// Worked examples of the words, which show that they mean what the manual says.
+// Worked examples of the definitions, which show that they mean what the manual says.
 ghost use Rattle.std.specs.Prelude.{◌≡◌, pos, negsuc, true, false, [], ◌∷◌, Some, None, codes};
 ghost use Rattle.py_meaning.specs.Examples.{id, ref, int, nested};
 ghost use Rattle.py_meaning.specs.Steps.{changes};

@@ -1,11 +1,11 @@
-//! What running means: values, objects and worlds, and the words that say what each operation on them does.
+//! What running means: values, objects and worlds, and the definitions of what each operation on them does.
 //!
-//! The plain data types stand here beside the definitions that speak of them. Definitions follow the manual's
+//! The plain data types are here, beside the definitions that speak of them. Definitions follow the manual's
 //! chapter "Built-in Types" and the Language Reference, chapters 3 and 6. Strings and tuples are shared and
-//! never change, so a copy of a value costs no more than a count. The crate knows nothing of tables, frames
+//! never change, so a copy of a value costs no more than a count, and a tuple knows how deep it is. The crate knows nothing of tables, frames
 //! or text.
 //!
-//! It stands on `pyn_base` and `py_syntax`.
+//! It builds on `pyn_base` and `py_syntax`.
 #![tactic(auto)]
 
 mod answers;

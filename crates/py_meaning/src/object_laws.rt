@@ -14,7 +14,7 @@ ghost use Rattle.py_meaning.specs.SoundRuns.{Fits, AllFit, Gives, Holds, Made, W
 use crate::Value;
 
 /// The same of each call of a table of objects: what it is given is sound for the world before it, what it hands out is sound for the
-/// world after it, and so is all that was sound before. For the calls that cost nothing and can't fail, the world after is the word's.
+/// world after it, and so is all that was sound before. Where a call costs nothing and can't fail, the world after is the definition's own value.
 pub fn laws_of_objects()
     ensures lists { (items : List Value) (world : World) → IsTrue (sound_world world) → AllFit world items → Gives (Made world) (make_list items world) }
     ensures dicts { (held : Pairs) (world : World) → IsTrue (sound_world world) → IsTrue (list_all (λ pair. sound (dicts world) pair.0 && sound (dicts world) pair.1) held) → Gives (Made world) (make_dict held world) }

@@ -29,7 +29,7 @@ near : (d s : ℕ) → 0 < d → d ≤ s → steps_over d (suc s) ≡ suc (steps
 near d s lo hi = let e : d - suc s + s ≡ s = omega arith in
     one_step d s lo (omega arith) ∙ ap suc (sym (ap (λ n. n / suc s) e ∙ no_step s))
 
--- over a distance that isn't nought there is a step, and those over what is left of it
+-- over a distance that isn't 0 there is a step, and those over what is left of it
 pub steps_more : (d s : ℕ) → 0 < d → steps_over d (suc s) ≡ suc (steps_over (d - suc s) (suc s))
 steps_more d s lo = elim (cases_lt s d) [ inl h ↦ far d s (omega arith) | inr h ↦ near d s lo h ]
 

@@ -1,5 +1,5 @@
 -- A tuple that was paid for.
-use Rattle.std.proofs.Common.{◌≡◌, ℕ, List, length, refl, sym, ◌∙◌, ap, Option, Some, None, true, false, nat_le, if◌then◌else◌, ◌-◌}
+use Rattle.std.proofs.Common.{◌≡◌, ℕ, List, length, sym, ◌∙◌, ap, Option, Some, None, true, nat_le, if◌then◌else◌, ◌-◌}
 use Rattle.std.specs.Option.{option_map}
 use Rattle.py_meaning.specs.declared.op.Op.{Op}
 use Rattle.py_meaning.specs.declared.op.Op.TheVariants as op

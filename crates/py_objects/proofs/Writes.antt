@@ -56,7 +56,7 @@ unless_done (op.Leaves construct) f p = f p
 unless_done op.OutOfSteps f p = f p
 unless_done op.Memory f p = f p
 
--- An object was taken out, changed and put back.
+-- An object was taken, changed and put back.
 module _ (id : ObjId) (world taken after : World) (held held' : Object) (was : held ≡ object_at world id) (took : taken ≡ with_object world id (object.List [])) (put : after ≡ with_object taken id held') where
   put_back : after ≡ with_object world id held'
   put_back = put ∙ ap (λ w. with_object w id held') took ∙ twice world id (object.List []) held'

@@ -1,6 +1,6 @@
 // What `+` gives.
 ghost use Rattle.std.specs.Prelude.{◌≡◌, ◌≤◌, ℕ, ◌++◌, IfOk};
-ghost use Rattle.py_meaning.specs.Steps.{changes, UnlessMemory, UnlessDone};
+ghost use Rattle.py_meaning.specs.Steps.{Does, UnlessMemory};
 ghost use Rattle.py_meaning.specs.Worlds.{object_at};
 ghost use Rattle.py_meaning.specs.Sums.{add, is_list, add_refs, add_numbers, add_texts, add_tuples};
 
@@ -16,9 +16,7 @@ impl Objects {
     /// the result.
     #[tactic(auto, using(py_meaning::specs::Folds::views))]
     pub fn add(&mut self, a: &Value, b: &Value, fuel: &mut Fuel) -> Op<Value>
-        ensures meant { UnlessMemory result (changes (add a.now b.now) self.old fuel.old ≡ (result, self.new, fuel.new)) }
-        ensures unchanged { UnlessDone result (self.new ≡ self.old) }
-        ensures fuel { fuel.new ≤ fuel.old }
+        ensures { Does (add a.now b.now) self.old fuel.old result self.new fuel.new }
     {
         if is_view(a) || is_view(b) {
             return Op::Leaves(Construct::View);
@@ -47,9 +45,7 @@ impl Objects {
     }
 
     fn add_refs(&mut self, i: ObjId, j: ObjId, fuel: &mut Fuel) -> Op<Value>
-        ensures meant { UnlessMemory result (changes (add_refs i j) self.old fuel.old ≡ (result, self.new, fuel.new)) }
-        ensures unchanged { UnlessDone result (self.new ≡ self.old) }
-        ensures fuel { fuel.new ≤ fuel.old }
+        ensures { Does (add_refs i j) self.old fuel.old result self.new fuel.new }
     {
         if !self.is_list(i) || !self.is_list(j) {
             return Op::Raises(BuiltClass::TypeError);

@@ -1,6 +1,6 @@
 // New lists and tuples of what is walked.
 ghost use Rattle.std.specs.Prelude.{◌≡◌, ◌≤◌, ℕ, ◌&&◌, true, false, not, map, nat_le, IfOk};
-ghost use Rattle.py_meaning.specs.Steps.{changes, UnlessMemory, UnlessDone};
+ghost use Rattle.py_meaning.specs.Steps.{Does, UnlessMemory};
 ghost use Rattle.py_meaning.specs.Tuples.{depth, deepest, depth_over, tuple_limit, new_tuple};
 ghost use Rattle.py_meaning.specs.Worlds.{object_at};
 ghost use Rattle.py_meaning.specs.Walk.{walked, walked_object, walked_view, keys_of, values_of, items_of, gives_new_tuples, shallow};
@@ -17,9 +17,7 @@ impl Objects {
     /// A new list of what is walked, at a step for each element. A tuple that the walk makes and that is too deep leaves before
     /// anything is paid.
     pub fn list_of(&mut self, value: &Value, fuel: &mut Fuel) -> Op<Value>
-        ensures meant { UnlessMemory result (changes (list_of value.now) self.old fuel.old ≡ (result, self.new, fuel.new)) }
-        ensures unchanged { UnlessDone result (self.new ≡ self.old) }
-        ensures fuel { fuel.new ≤ fuel.old }
+        ensures { Does (list_of value.now) self.old fuel.old result self.new fuel.new }
     {
         let Some(count) = self.length(value) else {
             return Op::Raises(BuiltClass::TypeError);

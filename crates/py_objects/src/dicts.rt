@@ -1,7 +1,7 @@
 // Dicts: looked up, written and shortened. A key's cost comes first, also where it is no key.
 ghost use Rattle.std.specs.Prelude.{◌≡◌, ◌≤◌, ℕ, ◌+◌, ◌-◌, nat_le, if◌then◌else◌, length, IfOk, OnOk, OnErr};
 ghost use Rattle.std.specs.Option.{option_copied};
-ghost use Rattle.py_meaning.specs.Steps.{changes, UnlessMemory, UnlessDone};
+ghost use Rattle.py_meaning.specs.Steps.{Does, DoesFree, changes, UnlessMemory};
 ghost use Rattle.py_meaning.specs.Keys.{key_cost, value_of_key};
 ghost use Rattle.py_meaning.specs.Operations.{dict_get, dict_put, dict_put_free, dict_delete, dict_delete_free, put_pair, delete_pair};
 ghost use Rattle.py_meaning.specs.DictMethods.{set_default};
@@ -29,9 +29,7 @@ impl Objects {
 
     /// Puts a value under a key.
     pub fn dict_put(&mut self, dict: ObjId, key: Value, value: Value, fuel: &mut Fuel) -> Op<()>
-        ensures meant { UnlessMemory result (changes (dict_put dict key value) self.old fuel.old ≡ (result, self.new, fuel.new)) }
-        ensures unchanged { UnlessDone result (self.new ≡ self.old) }
-        ensures fuel { fuel.new ≤ fuel.old }
+        ensures { Does (dict_put dict key value) self.old fuel.old result self.new fuel.new }
     {
         if !pay_key(&key, fuel) {
             drop(key);
@@ -59,9 +57,7 @@ impl Objects {
         other: &Value,
         fuel: &mut Fuel,
     ) -> Op<Value>
-        ensures meant { UnlessMemory result (changes (set_default dict key.now other.now) self.old fuel.old ≡ (result, self.new, fuel.new)) }
-        ensures unchanged { UnlessDone result (self.new ≡ self.old) }
-        ensures fuel { fuel.new ≤ fuel.old }
+        ensures { Does (set_default dict key.now other.now) self.old fuel.old result self.new fuel.new }
     {
         match self.dict_get(dict, key, fuel) {
             Op::Raises(BuiltClass::KeyError) => Op::Done(made!(self.put_new(dict, key, other))),
@@ -71,9 +67,7 @@ impl Objects {
 
     /// Removes a key's pair and gives its value, at the key's cost and a step for each pair. A missing key raises KeyError.
     pub fn dict_delete(&mut self, dict: ObjId, key: &Value, fuel: &mut Fuel) -> Op<Value>
-        ensures meant { UnlessMemory result (changes (dict_delete dict key.now) self.old fuel.old ≡ (result, self.new, fuel.new)) }
-        ensures unchanged { UnlessDone result (self.new ≡ self.old) }
-        ensures fuel { fuel.new ≤ fuel.old }
+        ensures { Does (dict_delete dict key.now) self.old fuel.old result self.new fuel.new }
     {
         if !pay_deletion(key, self.pairs(dict), fuel) {
             return Op::OutOfSteps;
@@ -106,8 +100,7 @@ impl Objects {
 
     /// Removes the pair of what is a key.
     fn dict_delete_free(&mut self, dict: ObjId, key: &Value) -> Op<Value>
-        ensures meant { UnlessMemory result ((left : ℕ) → changes (dict_delete_free dict key.now) self.old left ≡ (result, self.new, left)) }
-        ensures unchanged { UnlessDone result (self.new ≡ self.old) }
+        ensures { DoesFree (dict_delete_free dict key.now) self.old result self.new }
     {
         let mut object = self.take(dict);
         let answer = delete_pair(&mut object, key);
@@ -128,8 +121,7 @@ fn pay_deletion(key: &Value, pairs: &[(Value, Value)], fuel: &mut Fuel) -> bool
 }
 
 fn delete_pair(object: &mut Object, key: &Value) -> Op<Value>
-    ensures meant { UnlessMemory result ((left : ℕ) → changes (delete_pair key.now) object.old left ≡ (result, object.new, left)) }
-    ensures unchanged { UnlessDone result (object.new ≡ object.old) }
+    ensures { DoesFree (delete_pair key.now) object.old result object.new }
 {
     match object {
         Object::Dict(pairs, changes) => match key_place(key, pairs.as_slice()) {

@@ -1,7 +1,7 @@
 // A new dict from pairs, or from another's.
 ghost use Rattle.std.specs.Prelude.{◌≡◌, ◌≤◌, ◌-◌, nat_le, if◌then◌else◌, [], map, IfOk, OnErr};
 ghost use Rattle.std.specs.List.{sum_by};
-ghost use Rattle.py_meaning.specs.Steps.{changes, UnlessMemory, UnlessDone};
+ghost use Rattle.py_meaning.specs.Steps.{Does};
 ghost use Rattle.py_meaning.specs.Keys.{key_cost, as_key, all_keys};
 ghost use Rattle.py_meaning.specs.Operations.{made, put_all, make_dict, dict_copy};
 ghost use Rattle.py_objects.specs.Within.{within};
@@ -18,9 +18,7 @@ impl Objects {
     /// A new dict. All keys are paid for at once; then the first that is none raises or leaves; then the pairs are
     /// put in order.
     pub fn make_dict(&mut self, pairs: &[(Value, Value)], fuel: &mut Fuel) -> Op<ObjId>
-        ensures meant { UnlessMemory result (changes (make_dict pairs.now) self.old fuel.old ≡ (result, self.new, fuel.new)) }
-        ensures unchanged { UnlessDone result (self.new ≡ self.old) }
-        ensures fuel { fuel.new ≤ fuel.old }
+        ensures { Does (make_dict pairs.now) self.old fuel.old result self.new fuel.new }
     {
         if !pay_keys(pairs, fuel) {
             return Op::OutOfSteps;
@@ -31,9 +29,7 @@ impl Objects {
 
     /// A new dict with another's pairs, at a step for each.
     pub fn dict_copy(&mut self, dict: ObjId, fuel: &mut Fuel) -> Op<ObjId>
-        ensures meant { UnlessMemory result (changes (dict_copy dict) self.old fuel.old ≡ (result, self.new, fuel.new)) }
-        ensures unchanged { UnlessDone result (self.new ≡ self.old) }
-        ensures fuel { fuel.new ≤ fuel.old }
+        ensures { Does (dict_copy dict) self.old fuel.old result self.new fuel.new }
     {
         let count = self.pairs(dict).len() as u64;
         if !fuel.take(count) {

@@ -2,10 +2,10 @@
 //!
 //! A contract sees a table as its list of objects. Each call is one statement: its answer, the list after it and
 //! the steps left are the definition's function of the list before it. After any answer but `Done` the list is as
-//! it was. The layer above uses nothing else of it, so that objects may stand otherwise one day. It must never
+//! it was. The layer above uses nothing else of it, so that objects may be kept otherwise one day. It must never
 //! know of frames, trees or text.
 //!
-//! It stands on `py_meaning`, which has the words, and on `pyn_base`.
+//! It builds on `py_meaning`, which has the definitions, and on `pyn_base`.
 #![tactic(auto)]
 
 mod add;
@@ -24,8 +24,6 @@ mod payment;
 mod places;
 mod ranges;
 mod same;
-#[cfg(test)]
-mod tests;
 mod truth;
 mod unpaid;
 mod walk;

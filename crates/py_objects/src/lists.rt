@@ -1,6 +1,6 @@
 // Lists: made, written, grown and shortened, at their costs.
 ghost use Rattle.std.specs.Prelude.{◌≡◌, ◌≤◌, ℕ, IfOk};
-ghost use Rattle.py_meaning.specs.Steps.{changes, UnlessMemory, UnlessDone};
+ghost use Rattle.py_meaning.specs.Steps.{Does, DoesFree};
 ghost use Rattle.py_meaning.specs.Worlds.{object_at, with_object};
 ghost use Rattle.py_meaning.specs.Operations.{make_list, list_set, set_item, list_insert, list_remove, list_extend, list_pop, list_reverse, turned};
 
@@ -25,9 +25,7 @@ pub fn shared_all(alloc: Global, items: &[Value]) -> Result<Vec<Value>, Memory>
 impl Objects {
     /// A new list, at a step for each item.
     pub fn make_list(&mut self, items: &[Value], fuel: &mut Fuel) -> Op<ObjId>
-        ensures meant { UnlessMemory result (changes (make_list items.now) self.old fuel.old ≡ (result, self.new, fuel.new)) }
-        ensures unchanged { UnlessDone result (self.new ≡ self.old) }
-        ensures fuel { fuel.new ≤ fuel.old }
+        ensures { Does (make_list items.now) self.old fuel.old result self.new fuel.new }
     {
         if !fuel.take(items.len() as u64) {
             return Op::OutOfSteps;
@@ -38,8 +36,7 @@ impl Objects {
 
     /// Writes an item of a list. An index out of range raises IndexError.
     pub fn list_set(&mut self, list: ObjId, at: PyInt, value: Value) -> Op<()>
-        ensures meant { UnlessMemory result ((left : ℕ) → changes (list_set list at value) self.old left ≡ (result, self.new, left)) }
-        ensures unchanged { UnlessDone result (self.new ≡ self.old) }
+        ensures { DoesFree (list_set list at value) self.old result self.new }
     {
         let mut object = self.take(list);
         let answer = set_item(&mut object, at, value);
@@ -49,9 +46,7 @@ impl Objects {
 
     /// Puts an item before the one at an index, at a step for each item and one more.
     pub fn list_insert(&mut self, list: ObjId, at: PyInt, value: Value, fuel: &mut Fuel) -> Op<()>
-        ensures meant { UnlessMemory result (changes (list_insert list at value) self.old fuel.old ≡ (result, self.new, fuel.new)) }
-        ensures unchanged { UnlessDone result (self.new ≡ self.old) }
-        ensures fuel { fuel.new ≤ fuel.old }
+        ensures { Does (list_insert list at value) self.old fuel.old result self.new fuel.new }
     {
         if !fuel.take(self.elements(list).len() as u64 + 1) {
             drop(value);
@@ -63,9 +58,7 @@ impl Objects {
 
     /// Removes an item and gives it, at a step for each item. An index out of range raises IndexError.
     pub fn list_remove(&mut self, list: ObjId, at: PyInt, fuel: &mut Fuel) -> Op<Value>
-        ensures meant { UnlessMemory result (changes (list_remove list at) self.old fuel.old ≡ (result, self.new, fuel.new)) }
-        ensures unchanged { UnlessDone result (self.new ≡ self.old) }
-        ensures fuel { fuel.new ≤ fuel.old }
+        ensures { Does (list_remove list at) self.old fuel.old result self.new fuel.new }
     {
         if !fuel.take(self.elements(list).len() as u64) {
             return Op::OutOfSteps;
@@ -75,9 +68,7 @@ impl Objects {
 
     /// Removes the last item and gives it, at one step. An empty list raises IndexError.
     pub fn list_pop(&mut self, list: ObjId, fuel: &mut Fuel) -> Op<Value>
-        ensures meant { UnlessMemory result (changes (list_pop list) self.old fuel.old ≡ (result, self.new, fuel.new)) }
-        ensures unchanged { UnlessDone result (self.new ≡ self.old) }
-        ensures fuel { fuel.new ≤ fuel.old }
+        ensures { Does (list_pop list) self.old fuel.old result self.new fuel.new }
     {
         if !fuel.take(1) {
             return Op::OutOfSteps;
@@ -87,9 +78,7 @@ impl Objects {
 
     /// Turns a list's items round, at a step for each.
     pub fn list_reverse(&mut self, list: ObjId, fuel: &mut Fuel) -> Op<()>
-        ensures meant { UnlessMemory result (changes (list_reverse list) self.old fuel.old ≡ (result, self.new, fuel.new)) }
-        ensures unchanged { UnlessDone result (self.new ≡ self.old) }
-        ensures fuel { fuel.new ≤ fuel.old }
+        ensures { Does (list_reverse list) self.old fuel.old result self.new fuel.new }
     {
         if !fuel.take(self.elements(list).len() as u64) {
             return Op::OutOfSteps;
@@ -108,9 +97,7 @@ impl Objects {
 
     /// Puts items at the end, at a step for each.
     pub fn list_extend(&mut self, list: ObjId, items: &[Value], fuel: &mut Fuel) -> Op<()>
-        ensures meant { UnlessMemory result (changes (list_extend list items.now) self.old fuel.old ≡ (result, self.new, fuel.new)) }
-        ensures unchanged { UnlessDone result (self.new ≡ self.old) }
-        ensures fuel { fuel.new ≤ fuel.old }
+        ensures { Does (list_extend list items.now) self.old fuel.old result self.new fuel.new }
     {
         if !fuel.take(items.len() as u64) {
             return Op::OutOfSteps;
@@ -122,8 +109,7 @@ impl Objects {
 }
 
 fn set_item(object: &mut Object, at: PyInt, value: Value) -> Op<()>
-    ensures meant { UnlessMemory result ((left : ℕ) → changes (set_item at value) object.old left ≡ (result, object.new, left)) }
-    ensures unchanged { UnlessDone result (object.new ≡ object.old) }
+    ensures { DoesFree (set_item at value) object.old result object.new }
 {
     match object {
         Object::List(items) => match index_place(at, items.len()) {

@@ -8,7 +8,7 @@ use crate::{Object, Objects, Value, View};
 use pyn_base::ObjId;
 
 impl Objects {
-    /// False are None, False, 0 and everything of length nought.
+    /// False are None, False, 0 and everything of length 0.
     #[tactic(auto, using(py_meaning::specs::Folds::views))]
     pub fn truth(&self, value: &Value) -> bool
         ensures { result ≡ truth self.now value.now }

@@ -1,6 +1,6 @@
 // Lists written at no cost: the caller has paid for it.
 ghost use Rattle.std.specs.Prelude.{◌≡◌, ℕ, IfOk, OnOk, OnErr};
-ghost use Rattle.py_meaning.specs.Steps.{changes, UnlessMemory, UnlessDone};
+ghost use Rattle.py_meaning.specs.Steps.{DoesFree};
 ghost use Rattle.py_meaning.specs.Operations.{made, grown, inserted, list_extend_free, list_insert_free, list_remove_free, remove_item, set_elements};
 
 use crate::places::{index_place, insert_place};
@@ -40,8 +40,7 @@ impl Objects {
 
     /// Removes an item and gives it. An index out of range raises IndexError.
     pub fn list_remove_free(&mut self, list: ObjId, at: PyInt) -> Op<Value>
-        ensures meant { UnlessMemory result ((left : ℕ) → changes (list_remove_free list at) self.old left ≡ (result, self.new, left)) }
-        ensures unchanged { UnlessDone result (self.new ≡ self.old) }
+        ensures { DoesFree (list_remove_free list at) self.old result self.new }
     {
         let mut object = self.take(list);
         let answer = remove_item(&mut object, at);
@@ -86,8 +85,7 @@ fn inserted(object: &mut Object, at: PyInt, value: Value) -> Result<(), Memory>
 }
 
 fn remove_item(object: &mut Object, at: PyInt) -> Op<Value>
-    ensures meant { UnlessMemory result ((left : ℕ) → changes (remove_item at) object.old left ≡ (result, object.new, left)) }
-    ensures unchanged { UnlessDone result (object.new ≡ object.old) }
+    ensures { DoesFree (remove_item at) object.old result object.new }
 {
     match object {
         Object::List(items) => match index_place(at, items.len()) {

@@ -1,5 +1,4 @@
-use Rattle.std.proofs.Common.{ap, sym, ◌∙◌}
-use Rattle.py_meaning.specs.declared.value.Value.TheVariants.{Tuple}
+use Rattle.std.proofs.Common.{sym, ◌∙◌}
 use Rattle.py_objects.proofs.Costs.{tuple_some, tuple_none, parts_none}
 use Rattle.py_objects.proofs.keys.+key_cost.Goals as goal
 

@@ -1,6 +1,5 @@
 use Rattle.std.proofs.Common.{◌≡◌, map, drop, length}
-use Rattle.std.specs.List.{sum_by}
-use Rattle.py_meaning.specs.Keys.{key_cost, same_key, all_agree}
+use Rattle.py_meaning.specs.Keys.{same_key, all_agree}
 use Rattle.py_objects.proofs.keys.+same_key.Given as goal
 
 abbrev pub invariant-are_same_keys-loop-at : goal.invariant-are_same_keys-loop-at

@@ -1,6 +1,5 @@
 use Rattle.std.proofs.Common.{◌≡◌, map, drop}
-use Rattle.std.specs.List.{sum_by}
-use Rattle.py_meaning.specs.Keys.{key_cost, as_key, all_keys}
+use Rattle.py_meaning.specs.Keys.{as_key, all_keys}
 use Rattle.py_objects.proofs.objects.Objects.+as_key.Given as goal
 
 abbrev pub invariant-all_keys-loop-part : goal.invariant-all_keys-loop-part

@@ -8,7 +8,7 @@ invariant-equal_parts-loop-at l = equal_parts (equal_within l.levels l.self) (dr
 abbrev pub invariant-equal_pairs-loop-pair : goal.invariant-equal_pairs-loop-pair
 invariant-equal_pairs-loop-pair l = equal_pairs (equal_within l.levels l.self) l.left (drop l.pair-index l.right) l.fuel ≡ equal_pairs (equal_within l.levels l.self) l.left l.right l.fn.fuel
 
--- Parts stand one level further than the values that they are parts of.
+-- Parts are one level further than the values that they are parts of.
 abbrev pub decreases-equal_parts : goal.decreases-equal_parts
 decreases-equal_parts l = 5 * l.levels + 3
 

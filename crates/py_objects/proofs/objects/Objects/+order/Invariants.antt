@@ -5,11 +5,11 @@ use Rattle.py_objects.proofs.objects.Objects.+order.Given as goal
 
 abbrev pub invariant-ordered_parts-loop-at : goal.invariant-ordered_parts-loop-at
 invariant-ordered_parts-loop-at l = record {
-  behind : l.at ≤ length l.ys;
+  within : l.at ≤ length l.ys;
   left : ordered_parts l.order (equal_within l.levels l.self) (ordered_within l.levels l.self l.order) (drop l.at l.xs) (drop l.at l.ys) l.fuel ≡ ordered_parts l.order (equal_within l.levels l.self) (ordered_within l.levels l.self l.order) l.xs l.ys l.fn.fuel;
 }
 
--- Parts stand one level further than the values that they are parts of.
+-- Parts are one level further than the values that they are parts of.
 abbrev pub decreases-ordered_parts : goal.decreases-ordered_parts
 decreases-ordered_parts l = 4 * l.levels + 3
 

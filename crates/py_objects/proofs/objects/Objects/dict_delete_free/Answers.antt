@@ -2,8 +2,8 @@ use Rattle.py_meaning.specs.Operations.{delete_pair}
 use Rattle.py_objects.proofs.Writes.{written_free, unwritten}
 use Rattle.py_objects.proofs.objects.Objects.dict_delete_free.Goals as goal
 
-pub returns-clause-meant : goal.returns-clause-meant
-returns-clause-meant c = written_free _ _ _ _ _ _ c.take-object.ensures.object c.take-object.ensures.rest c.put.ensures (delete_pair c.args.key.now) _ c.delete_pair-answer.ensures.meant
-
-pub returns-clause-unchanged : goal.returns-clause-unchanged
-returns-clause-unchanged c = unwritten _ _ _ _ _ _ c.take-object.ensures.object c.take-object.ensures.rest c.put.ensures _ c.delete_pair-answer.ensures.unchanged
+pub returns : goal.returns
+returns c = record {
+  meant = written_free _ _ _ _ _ _ c.take-object.ensures.object c.take-object.ensures.rest c.put.ensures (delete_pair c.args.key.now) _ c.delete_pair-answer.ensures.meant;
+  unchanged = unwritten _ _ _ _ _ _ c.take-object.ensures.object c.take-object.ensures.rest c.put.ensures _ c.delete_pair-answer.ensures.unchanged;
+}

@@ -2,7 +2,7 @@
 use Rattle.std.proofs.Common.{◌≡◌, ℕ, zero, suc, ◌+◌, ◌<◌, ◌≤◌, List, [], ◌∷◌, ◌++◌, length, take, drop, refl, sym, ap, ◌∙◌, Option, Some, None, arith, length-drop, append_assoc}
 use Rattle.py_meaning.specs.Texts.{first_place, pieces, pieces_within, cut_once}
 
--- A text that isn't empty stands nowhere in the empty text.
+-- A text that isn't empty is nowhere in the empty text.
 pub nowhere_in_empty : (c : ℕ) (part : List ℕ) → first_place (c ∷ part) [] ≡ None
 nowhere_in_empty c part = refl
 
@@ -38,20 +38,20 @@ pieces_some (c ∷ part) (d ∷ text) at filled found =
     (pieces_enough (length text) (length (drop (at + length (c ∷ part)) (d ∷ text))) (c ∷ part) (drop (at + length (c ∷ part)) (d ∷ text)) filled
     (omega (arith, length-drop (at + length (c ∷ part)) (d ∷ text))) (omega arith))
 
-pub one_more : (part rest : List ℕ) (made whole : List (List ℕ)) (at : ℕ) → 0 < length part → first_place part rest ≡ Some at → made ++ pieces part rest ≡ whole → (made ++ take at rest ∷ []) ++ pieces part (drop (at + length part) rest) ≡ whole
-one_more part rest made whole at filled found so_far =
+pub next_piece : (part rest : List ℕ) (made whole : List (List ℕ)) (at : ℕ) → 0 < length part → first_place part rest ≡ Some at → made ++ pieces part rest ≡ whole → (made ++ take at rest ∷ []) ++ pieces part (drop (at + length part) rest) ≡ whole
+next_piece part rest made whole at filled found so_far =
     append_assoc made (take at rest ∷ []) (pieces part (drop (at + length part) rest))
     ∙ ap (λ others. made ++ others) (sym (pieces_some part rest at filled found))
     ∙ so_far
 
--- the same, as the code makes the piece and what stands behind it
-pub one_more_by : (part rest : List ℕ) (made : List (List ℕ)) {next whole : List (List ℕ)} {piece behind : List ℕ} (at : ℕ) → 0 < length part → Some at ≡ first_place part rest → made ++ pieces part rest ≡ whole → next ≡ made ++ piece ∷ [] → piece ≡ take at rest → behind ≡ drop (at + length part) rest → next ++ pieces part behind ≡ whole
-one_more_by part rest made {next} {whole} {piece} {behind} at filled found so_far e before after =
-    rw (e, before, after) (one_more part rest made whole at filled (sym found) so_far)
+-- the same, as the code makes the piece and what is after it
+pub next_piece_by : (part rest : List ℕ) (made : List (List ℕ)) {next whole : List (List ℕ)} {piece rest_after : List ℕ} (at : ℕ) → 0 < length part → Some at ≡ first_place part rest → made ++ pieces part rest ≡ whole → next ≡ made ++ piece ∷ [] → piece ≡ take at rest → rest_after ≡ drop (at + length part) rest → next ++ pieces part rest_after ≡ whole
+next_piece_by part rest made {next} {whole} {piece} {rest_after} at filled found so_far e before after =
+    rw (e, before, after) (next_piece part rest made whole at filled (sym found) so_far)
 
 pub the_last : (part rest : List ℕ) (made : List (List ℕ)) {next whole : List (List ℕ)} {piece : List ℕ} → 0 < length part → None ≡ first_place part rest → made ++ pieces part rest ≡ whole → next ≡ made ++ piece ∷ [] → piece ≡ rest → next ≡ whole
 the_last part rest made {next} {whole} {piece} filled none so_far e all =
     rw (e, all) (ap (λ others. made ++ others) (sym (pieces_none part rest filled (sym none))) ∙ so_far)
 
-pub shorter : (part rest behind : List ℕ) (at : ℕ) → 0 < length part → at + length part ≤ length rest → behind ≡ drop (at + length part) rest → length behind < length rest
-shorter part rest behind at filled within e = omega (arith, ap length e, length-drop (at + length part) rest)
+pub shorter : (part rest rest_after : List ℕ) (at : ℕ) → 0 < length part → at + length part ≤ length rest → rest_after ≡ drop (at + length part) rest → length rest_after < length rest
+shorter part rest rest_after at filled within e = omega (arith, ap length e, length-drop (at + length part) rest)

@@ -6,7 +6,7 @@ use Rattle.std.proofs.lemmas.Slice.Eq.{starts_is}
 use Rattle.std.proofs.lemmas.List.{get_or_append_left, get_or_push, get_or_default}
 use Rattle.std.proofs.lemmas.List.Prefix.{at_from_reads, at_reads, front_fits}
 use Rattle.py_meaning.specs.Texts.{first_place}
-use Rattle.py_text.proofs.FirstPlaces.{stands_at, first_place_is, first_place_none}
+use Rattle.py_text.proofs.FirstPlaces.{is_at, first_place_is, first_place_none}
 use Rattle.py_text.specs.Borders.{IsFrontAt, IsLongestBorder, AreBorders}
 
 pub shorter_front : {part text : List ℕ} {at : ℕ} (size less : ℕ) → less ≤ size → IsFrontAt part text at size → IsFrontAt part text at less
@@ -19,7 +19,7 @@ no_front part text at = record { each = λ j h. absurd (omega arith) }
 pub longer_front : {part text : List ℕ} {at : ℕ} (size : ℕ) → IsFrontAt part text at size → get_or text (at + size) 0 ≡ get_or part size 0 → IsFrontAt part text at (size + 1)
 longer_front {part} {text} {at} size front fits = record { each = below_more (λ j. get_or text (at + j) 0 ≡ get_or part j 0) size front.each fits }
 
--- where the text goes on after a border, as much fits as the border has
+-- where the text continues after a border, as much fits as the border has
 pub slides : {part text : List ℕ} (at size border : ℕ) → IsFrontAt part text at size → (b : IsLongestBorder part size border) → IsFrontAt part text (at + b.at) border
 slides {part} {text} at size border front b = record {
   each = λ j h.
@@ -29,7 +29,7 @@ slides {part} {text} at size border front b = record {
       ap (λ k. get_or text k 0) same ∙ here ∙ b.is_front.each j h;
 }
 
--- Between the two places the part doesn't stand: it would be a longer border.
+-- Between the two places the part isn't found: it would be a longer border.
 pub skips : {part text : List ℕ} (at size border : ℕ) → IsFrontAt part text at size → (b : IsLongestBorder part size border) → (next n : ℕ) → at < next → next < at + b.at → at + size ≤ next + n → IsFrontAt part text next n → ⊥
 skips {part} {text} at size border front b next n after before enough there =
     let d = next - at in
@@ -42,7 +42,7 @@ skips {part} {text} at size border front b next n after before enough there =
           sym one ∙ ap (λ k. get_or text k 0) same ∙ there.each j (omega arith);
     })
 
--- What a scan has seen: so many characters fit at a place, and the part stands at none before it.
+-- What a scan has seen: so many characters fit at a place, and the part is at none before it.
 pub record IsScanned (part text : List ℕ) (at fit : ℕ) : Type 0 where
   pub is_front : IsFrontAt part text at fit
   pub before : (k : ℕ) → k < at → k + length part ≤ length text → IsFrontAt part text k (length part) → ⊥
@@ -59,7 +59,7 @@ scan_moves {part} {text} {at} s filled apart = record {
   before = below_more (λ k. k + length part ≤ length text → IsFrontAt part text k (length part) → ⊥) at s.before (λ within there. apart (there.each 0 filled));
 }
 
--- Where the next character doesn't fit, the scan goes on at the longest border of those that do.
+-- Where the next character doesn't fit, the scan continues at the longest border of those that do.
 pub scan_slides : {part text : List ℕ} {at fit : ℕ} (border : ℕ) → IsScanned part text at fit → fit < length part → get_or text (at + fit) 0 ≢ get_or part fit 0 → (b : IsLongestBorder part fit border) → IsScanned part text (at + b.at) border
 scan_slides {part} {text} {at} {fit} border s more apart b = record {
   is_front = slides at fit border s.is_front b;
@@ -71,16 +71,16 @@ scan_slides {part} {text} {at} {fit} border s more apart b = record {
       ];
 }
 
--- the part stands at a place
-pub stands_here : (part text : List ℕ) (at : ℕ) → at + length part ≤ length text → IsFrontAt part text at (length part) → stands_at part text at ≡ true
-stands_here part text at within front =
-    (starts_is Decides-eqb (drop at text) part (stands_at part text at) refl).1 (drop (at + length part) text) (at_from_reads 0 text part at within front.each)
+-- the part is at a place
+pub is_here : (part text : List ℕ) (at : ℕ) → at + length part ≤ length text → IsFrontAt part text at (length part) → is_at part text at ≡ true
+is_here part text at within front =
+    (starts_is Decides-eqb (drop at text) part (is_at part text at) refl).1 (drop (at + length part) text) (at_from_reads 0 text part at within front.each)
 
-pub stands_not : (part text : List ℕ) (at : ℕ) → at ≤ length text → (at + length part ≤ length text → IsFrontAt part text at (length part) → ⊥) → stands_at part text at ≡ false
-stands_not part text at within never =
-    elim (cases_Bool (stands_at part text at)) as (λ _. stands_at part text at ≡ false) [
-      | inl it_stands ↦
-          let whole = (starts_is Decides-eqb (drop at text) part (stands_at part text at) refl).0 it_stands in
+pub is_not_at : (part text : List ℕ) (at : ℕ) → at ≤ length text → (at + length part ≤ length text → IsFrontAt part text at (length part) → ⊥) → is_at part text at ≡ false
+is_not_at part text at within never =
+    elim (cases_Bool (is_at part text at)) as (λ _. is_at part text at ≡ false) [
+      | inl it_is ↦
+          let whole = (starts_is Decides-eqb (drop at text) part (is_at part text at) refl).0 it_is in
           let fits = front_fits (drop at text) part (drop (length part) (drop at text)) whole in
           absurd (never (omega (arith, length-drop at text)) (record { each = at_reads 0 text part at (drop (length part) (drop at text)) whole }))
       | inr it_does_not ↦ it_does_not
@@ -88,14 +88,14 @@ stands_not part text at within never =
 
 pub found_at : {part text : List ℕ} (at : ℕ) → at + length part ≤ length text → IsScanned part text at (length part) → Some at ≡ first_place part text
 found_at {part} {text} at within s =
-    sym (first_place_is part text at (omega arith) (λ k h. stands_not part text k (omega arith) (s.before k h)) (stands_here part text at within s.is_front))
+    sym (first_place_is part text at (omega arith) (λ k h. is_not_at part text k (omega arith) (s.before k h)) (is_here part text at within s.is_front))
 
 pub found_nowhere : {part text : List ℕ} (at fit : ℕ) → length text < at + length part → IsScanned part text at fit → None ≡ first_place part text
 found_nowhere {part} {text} at fit past s =
-    sym (first_place_none part text (λ k h. stands_not part text k h (λ within there. s.before k (omega arith) within there)))
+    sym (first_place_none part text (λ k h. is_not_at part text k h (λ within there. s.before k (omega arith) within there)))
 
 -- What is known while borders are made: so many characters of the text fit at a place of its own, which is the longest
--- border so far, and no longer one goes on.
+-- border so far, and no longer one continues.
 pub record AreBordersSoFar (text borders : List ℕ) (at fit : ℕ) : Type 0 where
   pub begins : 0 < at
   pub ends : at + fit ≡ length borders
@@ -179,7 +179,7 @@ border_slides {text} {borders} {at} {fit} border s apart b =
       are_borders = s.are_borders;
     }
 
--- the border that stands in the table
+-- the border in the table
 pub border_of : {text : List ℕ} (borders : List ℕ) (fit d : ℕ) {border : ℕ} → AreBorders text borders → 0 < fit → fit ≤ length borders → border ≡ get_or borders (fit - 1) d → IsLongestBorder text fit border
 border_of {text} borders fit d {border} are filled within read =
     subst (IsLongestBorder text fit) (sym (read ∙ get_or_default borders (fit - 1) d 0 (omega arith))) (subst (λ (n : ℕ). IsLongestBorder text n (get_or borders (fit - 1) 0)) (omega arith) (are (fit - 1) (omega arith)))

@@ -1,8 +1,8 @@
--- Fronts of a text that stand in another, and those that end a front of the text itself, its borders (Knuth, Morris and
+-- Fronts of a text that are found in another, and those that end a front of the text itself, its borders (Knuth, Morris and
 -- Pratt, "Fast Pattern Matching in Strings").
 use Rattle.std.specs.Prelude.{◌≡◌, ℕ, ◌+◌, ◌<◌, List, length, slice_index}
 
--- The first `size` characters of a part stand in a text at a place.
+-- The first `size` characters of a part are in a text at a place.
 pub record IsFrontAt (part text : List ℕ) (at size : ℕ) : Type 0 where
   pub each : (j : ℕ) → j < size → slice_index text (at + j) ≡ slice_index part j
 

@@ -9,22 +9,22 @@ use pyn_base::Memory;
 use std::alloc::Global;
 
 /// A text of these characters.
-fn copied(alloc: Global, text: &[char]) -> Result<PyStr, Memory>
+pub fn copied(alloc: Global, text: &[char]) -> Result<PyStr, Memory>
     ensures { IfOk result (λ copy. copy ≡ text.now) }
 {
     PyStr::from_vec(alloc, Vec::from_slice(alloc, text)?)
 }
 
-/// What stands before a part of this size at a place, and what stands behind it.
+/// What is before a part of this size at a place, and what is after it.
 pub(crate) fn cut(text: &[char], at: usize, size: usize) -> (&[char], &[char])
     requires { at + size ≤ length text.now }
     ensures before { result.0.now ≡ take at text.now }
-    ensures behind { result.1.now ≡ drop (at + size) text.now }
+    ensures after { result.1.now ≡ drop (at + size) text.now }
 {
     (&text[..at], &text[at + size..])
 }
 
-/// What stands between the places of `part`, found from the left.
+/// What is between the places of `part`, found from the left.
 pub fn pieces(alloc: Global, part: &[char], text: &[char]) -> Result<Vec<PyStr>, Memory>
     requires { 0 < length part.now }
     ensures { IfOk result (λ all. all.items ≡ pieces part.now text.now) }
@@ -32,15 +32,15 @@ pub fn pieces(alloc: Global, part: &[char], text: &[char]) -> Result<Vec<PyStr>,
     let mut pieces = Vec::new(alloc);
     let mut rest = text;
     while let Some(at) = first_place(alloc, part, rest)? {
-        let (piece, behind) = cut(rest, at, part.len());
+        let (piece, after) = cut(rest, at, part.len());
         pieces.push(copied(alloc, piece)?)?;
-        rest = behind;
+        rest = after;
     }
     pieces.push(copied(alloc, rest)?)?;
     Ok(pieces)
 }
 
-/// What stands between runs of blanks.
+/// What is between runs of blanks.
 pub fn words(alloc: Global, text: &[char]) -> Result<Vec<PyStr>, Memory>
     ensures { IfOk result (λ all. all.items ≡ words text.now) }
 {

@@ -1,4 +1,4 @@
-// Texts without what stands at their ends.
+// Texts without blanks, spaces or given characters at their ends.
 ghost use Rattle.std.specs.Prelude.{◌≡◌, ℕ, Bool, IfOk, nat_eq};
 ghost use Rattle.std.specs.HashSet.{contains};
 ghost use Rattle.std.specs.List.{prefix_len, suffix_len};
@@ -57,7 +57,7 @@ pub fn without_blanks(text: &[char]) -> &[char]
     stripped(&Blank, text)
 }
 
-/// The text without those of the given characters that stand at both ends.
+/// The text without those of the given characters that are at its ends. Of an empty text no character is looked for.
 pub fn without_characters<'a>(
     alloc: Global,
     chars: &[char],
@@ -65,6 +65,9 @@ pub fn without_characters<'a>(
 ) -> Result<&'a [char], Memory>
     ensures { IfOk result (λ part. part.now ≡ stripped (is_one_of chars.now) text.now) }
 {
+    if text.is_empty() {
+        return Ok(text);
+    }
     let chars = set_of(alloc, chars)?;
     Ok(stripped(&OneOf { chars }, text))
 }

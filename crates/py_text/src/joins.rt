@@ -37,7 +37,7 @@ pub fn joined_length(between: &[char], texts: &[PyStr]) -> u128
     length
 }
 
-/// The text with `new` in each place of `part`, found from the left. The empty part stands before each character and
+/// The text with `new` in each place of `part`, found from the left. The empty part is before each character and
 /// at the end.
 pub fn replaced(alloc: Global, part: &[char], new: &[char], text: &[char]) -> Result<PyStr, Memory>
     ensures { IfOk result (λ made. made ≡ replaced part.now new.now text.now) }
@@ -70,10 +70,10 @@ fn put_in_places(alloc: Global, part: &[char], new: &[char], text: &[char]) -> R
     let mut made = Vec::new(alloc);
     let mut rest = text;
     while let Some(at) = first_place(alloc, part, rest)? {
-        let (piece, behind) = cut(rest, at, part.len());
+        let (piece, after) = cut(rest, at, part.len());
         made.extend_from_slice(piece)?;
         made.extend_from_slice(new)?;
-        rest = behind;
+        rest = after;
     }
     made.extend_from_slice(rest)?;
     PyStr::from_vec(alloc, made)
@@ -91,9 +91,9 @@ fn length_in_places(
     let mut length = 0;
     let mut rest = text;
     while let Some(at) = first_place(alloc, part, rest)? {
-        let (piece, behind) = cut(rest, at, part.len());
+        let (piece, after) = cut(rest, at, part.len());
         length += piece.len() as u128 + new.len() as u128;
-        rest = behind;
+        rest = after;
     }
     Ok(length + rest.len() as u128)
 }

@@ -57,36 +57,36 @@ fn signed_spelled(text: &[char]) -> Option<Option<PyInt>>
         return None;
     };
     if *first == '-' {
-        spelled_below_zero(rest)
+        spelled_negative(rest)
     } else if *first == '+' {
-        spelled_from_zero(rest)
+        spelled_positive(rest)
     } else {
-        spelled_from_zero(text)
+        spelled_positive(text)
     }
 }
 
-fn spelled_from_zero(text: &[char]) -> Option<Option<PyInt>>
+fn spelled_positive(text: &[char]) -> Option<Option<PyInt>>
     ensures { result ≡ option_map in_range (option_map pos (number_spelled text.now)) }
 {
     if is_numeral(text) {
-        Some(from_zero(value_spelled(text)))
+        Some(positive(value_spelled(text)))
     } else {
         None
     }
 }
 
-fn spelled_below_zero(text: &[char]) -> Option<Option<PyInt>>
+fn spelled_negative(text: &[char]) -> Option<Option<PyInt>>
     ensures { result ≡ option_map in_range (option_map (λ n. neg_ℤ (pos n)) (number_spelled text.now)) }
 {
     if is_numeral(text) {
-        Some(below_zero(value_spelled(text)))
+        Some(negative(value_spelled(text)))
     } else {
         None
     }
 }
 
-/// The integer of this size, where a size stands for each beyond the range.
-fn from_zero(size: u128) -> Option<PyInt>
+/// The integer of this size, where one size is for all beyond the range.
+fn positive(size: u128) -> Option<PyInt>
     ensures { (n : ℕ) → size ≡ min n (2 ^ 127) → result ≡ in_range (pos n) }
 {
     if size < END {
@@ -96,7 +96,7 @@ fn from_zero(size: u128) -> Option<PyInt>
     }
 }
 
-fn below_zero(size: u128) -> Option<PyInt>
+fn negative(size: u128) -> Option<PyInt>
     ensures { (n : ℕ) → size ≡ min n (2 ^ 127) → result ≡ in_range (neg_ℤ (pos n)) }
 {
     if size < END {

@@ -1,4 +1,4 @@
-// Where a text stands in another, by the method of Knuth, Morris and Pratt.
+// Where a text is in another, by the method of Knuth, Morris and Pratt.
 ghost use Rattle.std.specs.Prelude.{◌≡◌, ◌+◌, ◌≤◌, length, IfOk, IfSome};
 ghost use Rattle.py_meaning.specs.Texts.{first_place};
 ghost use Rattle.py_text.specs.Borders.{AreBorders};
@@ -6,7 +6,7 @@ ghost use Rattle.py_text.specs.Borders.{AreBorders};
 use pyn_base::Memory;
 use std::alloc::Global;
 
-/// The first place at which `part` stands in `text`, or `None`. The empty text stands at the front. It takes time linear
+/// The first place at which `part` is in `text`, or `None`. The empty text is at the front. It takes time linear
 /// in both, and memory for a number for each character of the part where that isn't longer than the text.
 pub fn first_place(alloc: Global, part: &[char], text: &[char]) -> Result<Option<usize>, Memory>
     ensures place { IfOk result (λ place. place ≡ first_place part.now text.now) }

@@ -1,5 +1,5 @@
 // The arithmetic operators (Language Reference 6.6 and 6.7).
-ghost use Rattle.std.specs.Prelude.{◌≡◌, ℕ};
+ghost use Rattle.std.specs.Prelude.{◌≡◌, ◌≤◌, ℕ};
 ghost use Rattle.py_meaning.specs.Steps.{changes, UnlessMemory, UnlessDone};
 ghost use Rattle.py_meaning.specs.Arithmetic.{by_numbers, difference, product, quotient, rest, rest_of_values, multiply_values, multiply_number, signed, unary};
 ghost use Rattle.py_meaning.specs.Operators.{binary};
@@ -16,6 +16,7 @@ use pyn_base::{BuiltClass, Construct, Fuel, PyInt};
 pub fn binary(op: BinOp, a: &Value, b: &Value, objects: &mut Objects, fuel: &mut Fuel) -> Op<Value>
     ensures meant { UnlessMemory result (changes (binary op a.now b.now) objects.old fuel.old ≡ (result, objects.new, fuel.new)) }
     ensures unchanged { UnlessDone result (objects.new ≡ objects.old) }
+    ensures fuel { fuel.new ≤ fuel.old }
 {
     if is_view(a) || is_view(b) {
         return Op::Leaves(Construct::View);
@@ -55,42 +56,32 @@ fn signed(sign: Sign, n: PyInt) -> PyInt
 }
 
 /// A sequence and a count in either order, or two numbers.
-#[tactic(auto, using(py_meaning::proofs::Folds::views))]
+#[tactic(auto, using(py_meaning::specs::Folds::views))]
 fn multiply(a: &Value, b: &Value, objects: &mut Objects, fuel: &mut Fuel) -> Op<Value>
     ensures meant { UnlessMemory result (changes (multiply_values (out-Value a.now) (out-Value b.now)) objects.old fuel.old ≡ (result, objects.new, fuel.new)) }
     ensures unchanged { UnlessDone result (objects.new ≡ objects.old) }
+    ensures fuel { fuel.new ≤ fuel.old }
 {
     match a {
         Value::Str(s) => repeat_text(objects.alloc(), s.as_slice(), number(b), fuel),
         Value::Tuple(parts) => repeat_tuple(objects.alloc(), parts.as_slice(), number(b), fuel),
         Value::Ref(id) => repeat_ref(*id, number(b), objects, fuel),
-        Value::None => multiply_number(number(a), b, objects, fuel),
-        Value::Bool(_) => multiply_number(number(a), b, objects, fuel),
-        Value::Int(_) => multiply_number(number(a), b, objects, fuel),
-        Value::Class(_) => multiply_number(number(a), b, objects, fuel),
-        Value::Func(_) => multiply_number(number(a), b, objects, fuel),
-        Value::View(_) => multiply_number(number(a), b, objects, fuel),
-        Value::ModuleRef => multiply_number(number(a), b, objects, fuel),
+        _ => multiply_number(number(a), b, objects, fuel),
     }
 }
 
 /// A count before a sequence, or two numbers.
-#[tactic(auto, using(py_meaning::proofs::Folds::views))]
+#[tactic(auto, using(py_meaning::specs::Folds::views))]
 fn multiply_number(n: Option<PyInt>, b: &Value, objects: &mut Objects, fuel: &mut Fuel) -> Op<Value>
     ensures meant { UnlessMemory result (changes (multiply_number n (out-Value b.now)) objects.old fuel.old ≡ (result, objects.new, fuel.new)) }
     ensures unchanged { UnlessDone result (objects.new ≡ objects.old) }
+    ensures fuel { fuel.new ≤ fuel.old }
 {
     match b {
         Value::Str(s) => repeat_text(objects.alloc(), s.as_slice(), n, fuel),
         Value::Tuple(parts) => repeat_tuple(objects.alloc(), parts.as_slice(), n, fuel),
         Value::Ref(id) => repeat_ref(*id, n, objects, fuel),
-        Value::None => product(n, number(b)),
-        Value::Bool(_) => product(n, number(b)),
-        Value::Int(_) => product(n, number(b)),
-        Value::Class(_) => product(n, number(b)),
-        Value::Func(_) => product(n, number(b)),
-        Value::View(_) => product(n, number(b)),
-        Value::ModuleRef => product(n, number(b)),
+        _ => product(n, number(b)),
     }
 }
 
@@ -151,20 +142,12 @@ fn rest(a: Option<PyInt>, b: Option<PyInt>) -> Op<Value>
 }
 
 /// `%`: of a string a format, else of numbers.
-#[tactic(auto, using(py_meaning::proofs::Folds::views))]
+#[tactic(auto, using(py_meaning::specs::Folds::views))]
 fn rest_of_values(a: &Value, b: &Value) -> Op<Value>
     ensures { (left : ℕ) → rest_of_values (out-Value a.now) (out-Value b.now) left ≡ (result, left) }
 {
     match a {
         Value::Str(_) => Op::Leaves(Construct::StringFormat),
-        Value::None => rest(number(a), number(b)),
-        Value::Bool(_) => rest(number(a), number(b)),
-        Value::Int(_) => rest(number(a), number(b)),
-        Value::Tuple(_) => rest(number(a), number(b)),
-        Value::Ref(_) => rest(number(a), number(b)),
-        Value::Class(_) => rest(number(a), number(b)),
-        Value::Func(_) => rest(number(a), number(b)),
-        Value::View(_) => rest(number(a), number(b)),
-        Value::ModuleRef => rest(number(a), number(b)),
+        _ => rest(number(a), number(b)),
     }
 }

@@ -7,7 +7,7 @@ use py_objects::{Op, Value, is_same_single};
 use pyn_base::Construct;
 
 /// Whether two values are one object. Of two integers, strings, tuples or views the language doesn't say it, so these leave.
-#[tactic(auto, using(py_meaning::proofs::Folds::views))]
+#[tactic(auto, using(py_meaning::specs::Folds::views))]
 pub(crate) fn identical(a: &Value, b: &Value) -> Op<bool>
     ensures { (left : ℕ) → identical (out-Value a.now) (out-Value b.now) left ≡ (result, left) }
 {
@@ -32,11 +32,7 @@ pub(crate) fn identical(a: &Value, b: &Value) -> Op<bool>
             Value::View(_) => Op::Leaves(Construct::Identity),
             _ => Op::Done(false),
         },
-        Value::None => Op::Done(is_same_single(a, b)),
-        Value::Ref(_) => Op::Done(is_same_single(a, b)),
-        Value::Class(_) => Op::Done(is_same_single(a, b)),
-        Value::Func(_) => Op::Done(is_same_single(a, b)),
-        Value::ModuleRef => Op::Done(is_same_single(a, b)),
+        _ => Op::Done(is_same_single(a, b)),
     }
 }
 

@@ -1,5 +1,5 @@
 // `in` (Language Reference 6.10.2).
-ghost use Rattle.std.specs.Prelude.{◌≡◌, ◌≢◌, ◌^◌, ◌≤ℤ◌, ◌<ℤ◌, pos, negsuc};
+ghost use Rattle.std.specs.Prelude.{◌≡◌, ◌≤◌, ◌≢◌, ◌^◌, ◌≤ℤ◌, ◌<ℤ◌, pos, negsuc};
 ghost use Rattle.std.specs.Ordering.{int_eq};
 ghost use Rattle.pyn_base.specs.Int.{floor_rest};
 ghost use Rattle.py_meaning.specs.Steps.{UnlessMemory};
@@ -8,17 +8,19 @@ ghost use Rattle.py_meaning.specs.Operations.{kind_of};
 ghost use Rattle.py_meaning.specs.Membership.{any_equal, is_key_of, is_counted, in_object, in_text, in_values, contains};
 ghost use Rattle.py_meaning.specs.declared.value.Value.{Value-F, out-Value};
 
+use py_meaning::{done, made};
 use py_objects::{ObjKind, Objects, Op, Value, View, is_view, number};
 use py_text::first_place;
-use pyn_base::{BuiltClass, Construct, Fuel, Memory, ObjId, PyInt};
+use pyn_base::{BuiltClass, Construct, Fuel, ObjId, PyInt};
 use std::alloc::Global;
 
 /// Whether an item is in a list or tuple, a text in a string, a key in a dict or a view of its keys, or a number in a range.
 /// A list or tuple costs a step and a comparison for each element up to the first that is the same or equal, a dict the key,
 /// a string both lengths. All else raises TypeError. A view as the item, and other views, leave.
-#[tactic(auto, using(py_meaning::proofs::Folds::views))]
+#[tactic(auto, using(py_meaning::specs::Folds::views))]
 pub fn contains(item: &Value, whole: &Value, objects: &Objects, fuel: &mut Fuel) -> Op<bool>
-    ensures { UnlessMemory result (contains item.now whole.now objects.now fuel.old ≡ (result, fuel.new)) }
+    ensures meant { UnlessMemory result (contains item.now whole.now objects.now fuel.old ≡ (result, fuel.new)) }
+    ensures fuel { fuel.new ≤ fuel.old }
 {
     if is_view(item) {
         return Op::Leaves(Construct::View);
@@ -28,68 +30,57 @@ pub fn contains(item: &Value, whole: &Value, objects: &Objects, fuel: &mut Fuel)
         Value::Tuple(parts) => any_equal(item, parts.as_slice(), objects, fuel),
         Value::Ref(id) => in_object(item, *id, objects, fuel),
         Value::View(view) => in_view(item, *view, objects, fuel),
-        Value::None => Op::Raises(BuiltClass::TypeError),
-        Value::Bool(_) => Op::Raises(BuiltClass::TypeError),
-        Value::Int(_) => Op::Raises(BuiltClass::TypeError),
-        Value::Class(_) => Op::Raises(BuiltClass::TypeError),
-        Value::Func(_) => Op::Raises(BuiltClass::TypeError),
-        Value::ModuleRef => Op::Raises(BuiltClass::TypeError),
-    }
-}
-
-/// Whether a text stands in another, at the length of both.
-#[tactic(auto, using(py_meaning::proofs::Folds::views))]
-fn in_text(alloc: Global, item: &Value, text: &[char], fuel: &mut Fuel) -> Op<bool>
-    ensures { UnlessMemory result (in_text (out-Value item.now) text.now fuel.old ≡ (result, fuel.new)) }
-{
-    match item {
-        Value::Str(part) => stands_in(alloc, part.as_slice(), text, fuel),
         _ => Op::Raises(BuiltClass::TypeError),
     }
 }
 
-fn stands_in(alloc: Global, part: &[char], text: &[char], fuel: &mut Fuel) -> Op<bool>
-    ensures { UnlessMemory result (in_text (Value-F.Str part.now) text.now fuel.old ≡ (result, fuel.new)) }
+/// Whether a text is part of another, at the length of both.
+#[tactic(auto, using(py_meaning::specs::Folds::views))]
+fn in_text(alloc: Global, item: &Value, text: &[char], fuel: &mut Fuel) -> Op<bool>
+    ensures meant { UnlessMemory result (in_text (out-Value item.now) text.now fuel.old ≡ (result, fuel.new)) }
+    ensures fuel { fuel.new ≤ fuel.old }
+{
+    match item {
+        Value::Str(part) => has_part(alloc, part.as_slice(), text, fuel),
+        _ => Op::Raises(BuiltClass::TypeError),
+    }
+}
+
+fn has_part(alloc: Global, part: &[char], text: &[char], fuel: &mut Fuel) -> Op<bool>
+    ensures meant { UnlessMemory result (in_text (Value-F.Str part.now) text.now fuel.old ≡ (result, fuel.new)) }
+    ensures fuel { fuel.new ≤ fuel.old }
 {
     if !fuel.take(text.len() as u64 + part.len() as u64) {
         return Op::OutOfSteps;
     }
-    match first_place(alloc, part, text) {
-        Ok(place) => Op::Done(place.is_some()),
-        Err(Memory) => Op::Memory,
-    }
+    let place = made!(first_place(alloc, part, text));
+    Op::Done(place.is_some())
 }
 
 fn any_equal(item: &Value, items: &[Value], objects: &Objects, fuel: &mut Fuel) -> Op<bool>
-    ensures { any_equal objects.now item.now items.now fuel.old ≡ (result, fuel.new) }
+    ensures meant { any_equal objects.now item.now items.now fuel.old ≡ (result, fuel.new) }
+    ensures fuel { fuel.new ≤ fuel.old }
 {
-    match objects.equal_place(1, item, items, fuel) {
-        Op::Done(place) => Op::Done(place.is_some()),
-        Op::Raises(class) => Op::Raises(class),
-        Op::Leaves(construct) => Op::Leaves(construct),
-        Op::OutOfSteps => Op::OutOfSteps,
-        Op::Memory => Op::Memory,
-    }
+    let place = done!(objects.equal_place(1, item, items, fuel));
+    Op::Done(place.is_some())
 }
 
 fn is_key_of(dict: ObjId, key: &Value, objects: &Objects, fuel: &mut Fuel) -> Op<bool>
-    ensures { UnlessMemory result (is_key_of dict key.now objects.now fuel.old ≡ (result, fuel.new)) }
+    ensures meant { UnlessMemory result (is_key_of dict key.now objects.now fuel.old ≡ (result, fuel.new)) }
+    ensures fuel { fuel.new ≤ fuel.old }
 {
     match objects.dict_get(dict, key, fuel) {
-        Op::Done(value) => {
-            drop(value);
+        Op::Raises(BuiltClass::KeyError) => Op::Done(false),
+        answer => {
+            drop(done!(answer));
             Op::Done(true)
         }
-        Op::Raises(BuiltClass::KeyError) => Op::Done(false),
-        Op::Raises(class) => Op::Raises(class),
-        Op::Leaves(construct) => Op::Leaves(construct),
-        Op::OutOfSteps => Op::OutOfSteps,
-        Op::Memory => Op::Memory,
     }
 }
 
 fn in_object(item: &Value, id: ObjId, objects: &Objects, fuel: &mut Fuel) -> Op<bool>
-    ensures { UnlessMemory result (in_object item.now id (kind_of (object_at objects.now id)) objects.now fuel.old ≡ (result, fuel.new)) }
+    ensures meant { UnlessMemory result (in_object item.now id (kind_of (object_at objects.now id)) objects.now fuel.old ≡ (result, fuel.new)) }
+    ensures fuel { fuel.new ≤ fuel.old }
 {
     match objects.kind(id) {
         ObjKind::List => any_equal(item, objects.elements(id), objects, fuel),
@@ -99,7 +90,8 @@ fn in_object(item: &Value, id: ObjId, objects: &Objects, fuel: &mut Fuel) -> Op<
 }
 
 fn in_view(item: &Value, view: View, objects: &Objects, fuel: &mut Fuel) -> Op<bool>
-    ensures { UnlessMemory result (in_values item.now (Value-F.View view) objects.now fuel.old ≡ (result, fuel.new)) }
+    ensures meant { UnlessMemory result (in_values item.now (Value-F.View view) objects.now fuel.old ≡ (result, fuel.new)) }
+    ensures fuel { fuel.new ≤ fuel.old }
 {
     match view {
         View::Range(start, stop, step) => match number(item) {

@@ -1,16 +1,17 @@
 // Repetition of strings, tuples and lists (the manual, "Common Sequence Operations").
-ghost use Rattle.std.specs.Prelude.{◌≡◌, ◌*◌, ◌-◌, nat_le, if◌then◌else◌, length, IfOk};
+ghost use Rattle.std.specs.Prelude.{◌≡◌, ◌≤◌, ◌*◌, ◌-◌, nat_le, if◌then◌else◌, length, IfOk};
 ghost use Rattle.std.specs.List.{repeat};
 ghost use Rattle.py_meaning.specs.Steps.{changes, UnlessMemory, UnlessDone};
-ghost use Rattle.py_meaning.specs.Arithmetic.{in_machine, from_zero, repeated_text, repeated_tuple, repeat_ref};
+ghost use Rattle.py_meaning.specs.Arithmetic.{in_machine, count_or_zero, repeated_text, repeated_tuple, repeat_ref};
 
-use py_objects::{Objects, Op, PyStr, PyTuple, Value, is_within_machine, shared_all};
+use py_meaning::{made, new_tuple};
+use py_objects::{Objects, Op, PyStr, Value, is_within_machine, shared_all};
 use pyn_base::{BuiltClass, Construct, Fuel, Memory, ObjId, PyInt};
 use std::alloc::Global;
 
 /// A count below 0 counts as 0.
-pub(crate) fn from_zero(n: PyInt) -> u128
-    ensures { result ≡ from_zero n }
+pub(crate) fn count_or_zero(n: PyInt) -> u128
+    ensures { result ≡ count_or_zero n }
 {
     if n.get() > 0 { n.get() as u128 } else { 0 }
 }
@@ -20,6 +21,7 @@ pub(crate) fn from_zero(n: PyInt) -> u128
 pub(crate) fn pay_repeated(count: u128, size: usize, fuel: &mut Fuel) -> bool
     ensures enough { result ≡ nat_le (count * size) fuel.old }
     ensures left { fuel.new ≡ (if nat_le (count * size) fuel.old then fuel.old - count * size else fuel.old) }
+    ensures fuel { fuel.new ≤ fuel.old }
 {
     let left = fuel.left() as u128;
     let cost = count.saturating_mul(size as u128);
@@ -36,7 +38,8 @@ pub(crate) fn repeat_text(
     count: Option<PyInt>,
     fuel: &mut Fuel,
 ) -> Op<Value>
-    ensures { UnlessMemory result (in_machine count (repeated_text s.now) fuel.old ≡ (result, fuel.new)) }
+    ensures meant { UnlessMemory result (in_machine count (repeated_text s.now) fuel.old ≡ (result, fuel.new)) }
+    ensures fuel { fuel.new ≤ fuel.old }
 {
     let Some(count) = count else {
         return Op::Raises(BuiltClass::TypeError);
@@ -44,14 +47,11 @@ pub(crate) fn repeat_text(
     if !is_within_machine(count) {
         return Op::Leaves(Construct::MachineSize);
     }
-    let count = from_zero(count);
+    let count = count_or_zero(count);
     if !pay_repeated(count, s.len(), fuel) {
         return Op::OutOfSteps;
     }
-    match repeated_text(alloc, s, count) {
-        Ok(text) => Op::Done(Value::Str(text)),
-        Err(Memory) => Op::Memory,
-    }
+    Op::Done(Value::Str(made!(repeated_text(alloc, s, count))))
 }
 
 pub(crate) fn repeat_tuple(
@@ -60,7 +60,8 @@ pub(crate) fn repeat_tuple(
     count: Option<PyInt>,
     fuel: &mut Fuel,
 ) -> Op<Value>
-    ensures { UnlessMemory result (in_machine count (repeated_tuple parts.now) fuel.old ≡ (result, fuel.new)) }
+    ensures meant { UnlessMemory result (in_machine count (repeated_tuple parts.now) fuel.old ≡ (result, fuel.new)) }
+    ensures fuel { fuel.new ≤ fuel.old }
 {
     let Some(count) = count else {
         return Op::Raises(BuiltClass::TypeError);
@@ -68,14 +69,11 @@ pub(crate) fn repeat_tuple(
     if !is_within_machine(count) {
         return Op::Leaves(Construct::MachineSize);
     }
-    let count = from_zero(count);
+    let count = count_or_zero(count);
     if !pay_repeated(count, parts.len(), fuel) {
         return Op::OutOfSteps;
     }
-    match repeated_tuple(alloc, parts, count) {
-        Ok(tuple) => Op::Done(Value::Tuple(tuple)),
-        Err(Memory) => Op::Memory,
-    }
+    new_tuple(alloc, made!(repeated_values(alloc, parts, count)))
 }
 
 /// A new list, where the reference names one.
@@ -87,6 +85,7 @@ pub(crate) fn repeat_ref(
 ) -> Op<Value>
     ensures meant { UnlessMemory result (changes (repeat_ref id count) objects.old fuel.old ≡ (result, objects.new, fuel.new)) }
     ensures unchanged { UnlessDone result (objects.new ≡ objects.old) }
+    ensures fuel { fuel.new ≤ fuel.old }
 {
     if !objects.is_list(id) {
         return Op::Raises(BuiltClass::TypeError);
@@ -97,30 +96,18 @@ pub(crate) fn repeat_ref(
     if !is_within_machine(count) {
         return Op::Leaves(Construct::MachineSize);
     }
-    let count = from_zero(count);
+    let count = count_or_zero(count);
     if !pay_repeated(count, objects.elements(id).len(), fuel) {
         return Op::OutOfSteps;
     }
-    let items = match repeated_values(objects.alloc(), objects.elements(id), count) {
-        Ok(items) => items,
-        Err(Memory) => return Op::Memory,
-    };
-    match objects.new_list(items) {
-        Ok(list) => Op::Done(Value::Ref(list)),
-        Err(Memory) => Op::Memory,
-    }
+    let items = made!(repeated_values(objects.alloc(), objects.elements(id), count));
+    Op::Done(Value::Ref(made!(objects.new_list(items))))
 }
 
 fn repeated_text(alloc: Global, s: &[char], count: u128) -> Result<PyStr, Memory>
     ensures { IfOk result (λ text. text ≡ repeat count s.now) }
 {
     PyStr::from_vec(alloc, repeated_letters(alloc, s, count)?)
-}
-
-fn repeated_tuple(alloc: Global, parts: &[Value], count: u128) -> Result<PyTuple, Memory>
-    ensures { IfOk result (λ tuple. tuple ≡ repeat count parts.now) }
-{
-    PyTuple::from_vec(alloc, repeated_values(alloc, parts, count)?)
 }
 
 /// Takes no turn where there is nothing to repeat, however great the count.

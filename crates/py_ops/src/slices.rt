@@ -1,11 +1,13 @@
 // Slicings (Language Reference 6.3.3).
-ghost use Rattle.std.specs.Prelude.{◌≡◌, ◌≤◌, IfOk};
+ghost use Rattle.std.specs.Prelude.{◌≡◌, ◌≤◌};
 ghost use Rattle.py_meaning.specs.Steps.{changes, UnlessMemory, UnlessDone};
 ghost use Rattle.py_meaning.specs.Subscripts.{bound, bound_place, cut, cut_text, cut_tuple, cut_ref, slice, slice_of};
 ghost use Rattle.py_meaning.specs.declared.value.Value.{out-Value};
 
-use py_objects::{Objects, Op, PyStr, PyTuple, Value, insert_place, is_view, number, shared_all};
-use pyn_base::{BuiltClass, Construct, Fuel, Memory, ObjId, PyInt};
+use py_meaning::{made, new_tuple};
+use py_objects::{Objects, Op, Value, insert_place, is_view, number, shared_all};
+use py_text::copied;
+use pyn_base::{BuiltClass, Construct, Fuel, ObjId, PyInt};
 use std::alloc::Global;
 
 /// `of[low:high]`: a part of a list, tuple or string, at a step for each element of it. A bound is an integer, below 0 from the
@@ -19,6 +21,7 @@ pub fn slice(
 ) -> Op<Value>
     ensures meant { UnlessMemory result (changes (slice of.now low.now high.now) objects.old fuel.old ≡ (result, objects.new, fuel.new)) }
     ensures unchanged { UnlessDone result (objects.new ≡ objects.old) }
+    ensures fuel { fuel.new ≤ fuel.old }
 {
     if is_view(of) || (is_view(low) || is_view(high)) {
         return Op::Leaves(Construct::View);
@@ -26,7 +29,7 @@ pub fn slice(
     slice_of(of, bound(low), bound(high), objects, fuel)
 }
 
-#[tactic(auto, using(py_meaning::proofs::Folds::views))]
+#[tactic(auto, using(py_meaning::specs::Folds::views))]
 fn slice_of(
     of: &Value,
     low: Option<Option<PyInt>>,
@@ -36,6 +39,7 @@ fn slice_of(
 ) -> Op<Value>
     ensures meant { UnlessMemory result (changes (slice_of (out-Value of.now) low high) objects.old fuel.old ≡ (result, objects.new, fuel.new)) }
     ensures unchanged { UnlessDone result (objects.new ≡ objects.old) }
+    ensures fuel { fuel.new ≤ fuel.old }
 {
     match of {
         Value::Class(_) => Op::Leaves(Construct::SubscriptOfAClass),
@@ -59,17 +63,12 @@ fn slice_of(
             (Some(low), Some(high)) => cut_ref(*id, low, high, objects, fuel),
             _ => Op::Raises(BuiltClass::TypeError),
         },
-        Value::None => Op::Raises(BuiltClass::TypeError),
-        Value::Bool(_) => Op::Raises(BuiltClass::TypeError),
-        Value::Int(_) => Op::Raises(BuiltClass::TypeError),
-        Value::Func(_) => Op::Raises(BuiltClass::TypeError),
-        Value::View(_) => Op::Raises(BuiltClass::TypeError),
-        Value::ModuleRef => Op::Raises(BuiltClass::TypeError),
+        _ => Op::Raises(BuiltClass::TypeError),
     }
 }
 
 /// A bound: a number, or None where it isn't given. Anything else is none.
-#[tactic(auto, using(py_meaning::proofs::Folds::views))]
+#[tactic(auto, using(py_meaning::specs::Folds::views))]
 fn bound(value: &Value) -> Option<Option<PyInt>>
     ensures { result ≡ bound (out-Value value.now) }
 {
@@ -104,39 +103,23 @@ fn cut<T>(low: Option<PyInt>, high: Option<PyInt>, items: &[T]) -> &[T]
 }
 
 fn cut_text(alloc: Global, s: &[char], fuel: &mut Fuel) -> Op<Value>
-    ensures { UnlessMemory result (cut_text s.now fuel.old ≡ (result, fuel.new)) }
+    ensures meant { UnlessMemory result (cut_text s.now fuel.old ≡ (result, fuel.new)) }
+    ensures fuel { fuel.new ≤ fuel.old }
 {
     if !fuel.take(s.len() as u64) {
         return Op::OutOfSteps;
     }
-    match copied_text(alloc, s) {
-        Ok(text) => Op::Done(Value::Str(text)),
-        Err(Memory) => Op::Memory,
-    }
-}
-
-fn copied_text(alloc: Global, s: &[char]) -> Result<PyStr, Memory>
-    ensures { IfOk result (λ text. text ≡ s.now) }
-{
-    PyStr::from_vec(alloc, Vec::from_slice(alloc, s)?)
+    Op::Done(Value::Str(made!(copied(alloc, s))))
 }
 
 fn cut_tuple(alloc: Global, parts: &[Value], fuel: &mut Fuel) -> Op<Value>
-    ensures { UnlessMemory result (cut_tuple parts.now fuel.old ≡ (result, fuel.new)) }
+    ensures meant { UnlessMemory result (cut_tuple parts.now fuel.old ≡ (result, fuel.new)) }
+    ensures fuel { fuel.new ≤ fuel.old }
 {
     if !fuel.take(parts.len() as u64) {
         return Op::OutOfSteps;
     }
-    match copied_tuple(alloc, parts) {
-        Ok(tuple) => Op::Done(Value::Tuple(tuple)),
-        Err(Memory) => Op::Memory,
-    }
-}
-
-fn copied_tuple(alloc: Global, parts: &[Value]) -> Result<PyTuple, Memory>
-    ensures { IfOk result (λ tuple. tuple ≡ parts.now) }
-{
-    PyTuple::from_vec(alloc, shared_all(alloc, parts)?)
+    new_tuple(alloc, made!(shared_all(alloc, parts)))
 }
 
 /// A new list, where the reference names one.
@@ -149,6 +132,7 @@ fn cut_ref(
 ) -> Op<Value>
     ensures meant { UnlessMemory result (changes (cut_ref id low high) objects.old fuel.old ≡ (result, objects.new, fuel.new)) }
     ensures unchanged { UnlessDone result (objects.new ≡ objects.old) }
+    ensures fuel { fuel.new ≤ fuel.old }
 {
     if !objects.is_list(id) {
         return Op::Raises(BuiltClass::TypeError);
@@ -157,12 +141,6 @@ fn cut_ref(
     if !fuel.take(part.len() as u64) {
         return Op::OutOfSteps;
     }
-    let items = match shared_all(objects.alloc(), part) {
-        Ok(items) => items,
-        Err(Memory) => return Op::Memory,
-    };
-    match objects.new_list(items) {
-        Ok(list) => Op::Done(Value::Ref(list)),
-        Err(Memory) => Op::Memory,
-    }
+    let items = made!(shared_all(objects.alloc(), part));
+    Op::Done(Value::Ref(made!(objects.new_list(items))))
 }

@@ -56,3 +56,12 @@ pub caught : (world : World) (other : Value) (answer : Op (Value × World)) (lef
     → settle world answer left ≡ (op.Raises class, new, rest) → UnlessMemory result (result ≡ where_missing other (op.Raises class))
     → UnlessMemory result (settle world (where_missing (other, world) answer) left ≡ (result, new, rest))
 caught world other answer left class result new rest e h = given_as result _ _ new rest (passed world other answer left (op.Raises class) new rest e) h
+
+-- what isn't raised is passed on
+pub not_raised : (world : World) (other : Value) (answer : Op (Value × World)) (left : ℕ) (found : Op Value) (new : World) (rest : ℕ) → ((class : BuiltClass) → found ≡ op.Raises class → ⊥)
+    → UnlessMemory found (settle world answer left ≡ (found, new, rest)) → UnlessMemory found (settle world (where_missing (other, world) answer) left ≡ (found, new, rest))
+not_raised world other answer left (op.Done x) new rest h e = passed world other answer left (op.Done x) new rest e
+not_raised world other answer left (op.Raises class) new rest h e = absurd (h class refl)
+not_raised world other answer left (op.Leaves construct) new rest h e = passed world other answer left (op.Leaves construct) new rest e
+not_raised world other answer left op.OutOfSteps new rest h e = passed world other answer left op.OutOfSteps new rest e
+not_raised world other answer left op.Memory new rest h e = tt

@@ -1,12 +1,11 @@
 // The methods of dicts (the manual, "Mapping Types"), one function a row.
-ghost use Rattle.std.specs.Prelude.{◌≡◌, ℕ, [], ◌∷◌, length, IfOk, OnOk, OnErr};
+ghost use Rattle.std.specs.Prelude.{◌≡◌, ◌≤◌, ℕ, [], ◌∷◌, length, IfOk, OnOk, OnErr};
 ghost use Rattle.py_meaning.specs.Caught.{where_missing};
 ghost use Rattle.py_meaning.specs.Steps.{changes, UnlessMemory, UnlessDone};
 ghost use Rattle.py_meaning.specs.Worlds.{World, pairs, object_at, with_object};
-ghost use Rattle.py_meaning.specs.Operations.{put_pair};
-ghost use Rattle.py_meaning.specs.DictMethods.{get_or, set_default, pop_key, pop_or, clear_dict, copy_dict, dict_method};
+ghost use Rattle.py_meaning.specs.DictMethods.{get_or, pop_key, pop_or, clear_dict, copy_dict, dict_method};
 
-use py_meaning::{DictMethod, ObjKind, Op, Value, View};
+use py_meaning::{DictMethod, ObjKind, Op, Value, View, done, made};
 use py_objects::Objects;
 use pyn_base::{BuiltClass, Construct, Fuel, Memory, ObjId};
 
@@ -16,8 +15,7 @@ fn pair_count(dict: ObjId, objects: &Objects) -> u64
 {
     match objects.kind(dict) {
         ObjKind::Dict => objects.size(dict),
-        ObjKind::List => 0,
-        ObjKind::Instance(_) => 0,
+        _ => 0,
     }
 }
 
@@ -26,54 +24,18 @@ fn or_other(class: BuiltClass, other: &Value) -> Op<Value>
     ensures { UnlessMemory result (result ≡ where_missing other.now (Op.Raises class)) }
 {
     match class {
-        BuiltClass::KeyError => match other.share() {
-            Ok(other) => Op::Done(other),
-            Err(Memory) => Op::Memory,
-        },
+        BuiltClass::KeyError => Op::Done(made!(other.share())),
         class => Op::Raises(class),
     }
 }
 
 /// The value of a key, or another, at the key's cost.
 fn get_or(dict: ObjId, key: &Value, other: &Value, objects: &Objects, fuel: &mut Fuel) -> Op<Value>
-    ensures { UnlessMemory result (get_or dict key.now other.now objects.now fuel.old ≡ (result, fuel.new)) }
+    ensures meant { UnlessMemory result (get_or dict key.now other.now objects.now fuel.old ≡ (result, fuel.new)) }
+    ensures fuel { fuel.new ≤ fuel.old }
 {
     match objects.dict_get(dict, key, fuel) {
-        Op::Raises(class) => or_other(class, other),
-        Op::Done(value) => Op::Done(value),
-        Op::Leaves(construct) => Op::Leaves(construct),
-        Op::OutOfSteps => Op::OutOfSteps,
-        Op::Memory => Op::Memory,
-    }
-}
-
-/// Puts a value under what is a key, and gives it.
-fn put_new(dict: ObjId, key: &Value, value: &Value, objects: &mut Objects) -> Result<Value, Memory>
-    ensures given { IfOk result (λ given. given ≡ value.now) }
-    ensures ok { OnOk result (objects.new ≡ with_object objects.old dict (put_pair key.now value.now (object_at objects.old dict))) }
-    ensures err { OnErr result (objects.new ≡ objects.old) }
-{
-    let given = value.share()?;
-    objects.put_pair(dict, key.share()?, value.share()?)?;
-    Ok(given)
-}
-
-/// The value of a key, at the key's cost. Under a missing one another is put.
-fn set_default(
-    dict: ObjId,
-    key: &Value,
-    other: &Value,
-    objects: &mut Objects,
-    fuel: &mut Fuel,
-) -> Op<Value>
-    ensures meant { UnlessMemory result (changes (set_default dict key.now other.now) objects.old fuel.old ≡ (result, objects.new, fuel.new)) }
-    ensures unchanged { UnlessDone result (objects.new ≡ objects.old) }
-{
-    match objects.dict_get(dict, key, fuel) {
-        Op::Raises(BuiltClass::KeyError) => match put_new(dict, key, other, objects) {
-            Ok(given) => Op::Done(given),
-            Err(Memory) => Op::Memory,
-        },
+        Op::Raises(BuiltClass::KeyError) => Op::Done(made!(other.share())),
         answer => answer,
     }
 }
@@ -82,6 +44,7 @@ fn set_default(
 fn pop_key(dict: ObjId, key: &Value, objects: &mut Objects, fuel: &mut Fuel) -> Op<Value>
     ensures meant { UnlessMemory result (changes (pop_key dict key.now) objects.old fuel.old ≡ (result, objects.new, fuel.new)) }
     ensures unchanged { UnlessDone result (objects.new ≡ objects.old) }
+    ensures fuel { fuel.new ≤ fuel.old }
 {
     let count = pair_count(dict, objects);
     match objects.dict_delete(dict, key, fuel) {
@@ -91,7 +54,7 @@ fn pop_key(dict: ObjId, key: &Value, objects: &mut Objects, fuel: &mut Fuel) -> 
 }
 
 /// The same, or another value where the key is missing.
-#[tactic(auto, using(crate::proofs::Settled::passed, crate::proofs::Settled::caught))]
+#[tactic(auto, using(crate::proofs::Settled::caught))]
 fn pop_or(
     dict: ObjId,
     key: &Value,
@@ -101,41 +64,33 @@ fn pop_or(
 ) -> Op<Value>
     ensures meant { UnlessMemory result (changes (pop_or dict key.now other.now) objects.old fuel.old ≡ (result, objects.new, fuel.new)) }
     ensures unchanged { UnlessDone result (objects.new ≡ objects.old) }
+    ensures fuel { fuel.new ≤ fuel.old }
 {
     match pop_key(dict, key, objects, fuel) {
         Op::Raises(class) => or_other(class, other),
-        Op::Done(value) => Op::Done(value),
-        Op::Leaves(construct) => Op::Leaves(construct),
-        Op::OutOfSteps => Op::OutOfSteps,
-        Op::Memory => Op::Memory,
+        answer => answer,
     }
 }
 
 fn clear_dict(dict: ObjId, objects: &mut Objects, fuel: &mut Fuel) -> Op<Value>
     ensures meant { UnlessMemory result (changes (clear_dict dict) objects.old fuel.old ≡ (result, objects.new, fuel.new)) }
     ensures unchanged { UnlessDone result (objects.new ≡ objects.old) }
+    ensures fuel { fuel.new ≤ fuel.old }
 {
     if !fuel.take(pair_count(dict, objects)) {
         return Op::OutOfSteps;
     }
-    match objects.clear(dict) {
-        Ok(()) => Op::Done(Value::None),
-        Err(Memory) => Op::Memory,
-    }
+    made!(objects.clear(dict));
+    Op::Done(Value::None)
 }
 
 /// A new dict of the pairs.
 fn copy_dict(dict: ObjId, objects: &mut Objects, fuel: &mut Fuel) -> Op<Value>
     ensures meant { UnlessMemory result (changes (copy_dict dict) objects.old fuel.old ≡ (result, objects.new, fuel.new)) }
     ensures unchanged { UnlessDone result (objects.new ≡ objects.old) }
+    ensures fuel { fuel.new ≤ fuel.old }
 {
-    match objects.dict_copy(dict, fuel) {
-        Op::Done(id) => Op::Done(Value::Ref(id)),
-        Op::Raises(class) => Op::Raises(class),
-        Op::Leaves(construct) => Op::Leaves(construct),
-        Op::OutOfSteps => Op::OutOfSteps,
-        Op::Memory => Op::Memory,
-    }
+    Op::Done(Value::Ref(done!(objects.dict_copy(dict, fuel))))
 }
 
 /// What takes no argument.
@@ -147,6 +102,7 @@ fn dict_method_alone(
 ) -> Op<Value>
     ensures meant { UnlessMemory result (changes (dict_method method dict []) objects.old fuel.old ≡ (result, objects.new, fuel.new)) }
     ensures unchanged { UnlessDone result (objects.new ≡ objects.old) }
+    ensures fuel { fuel.new ≤ fuel.old }
 {
     match method {
         DictMethod::Keys => Op::Done(Value::View(View::Keys(dict))),
@@ -154,9 +110,7 @@ fn dict_method_alone(
         DictMethod::Items => Op::Done(Value::View(View::Items(dict))),
         DictMethod::Clear => clear_dict(dict, objects, fuel),
         DictMethod::Copy => copy_dict(dict, objects, fuel),
-        DictMethod::Get => Op::Raises(BuiltClass::TypeError),
-        DictMethod::SetDefault => Op::Raises(BuiltClass::TypeError),
-        DictMethod::Pop => Op::Raises(BuiltClass::TypeError),
+        _ => Op::Raises(BuiltClass::TypeError),
     }
 }
 
@@ -170,16 +124,13 @@ fn dict_method_of(
 ) -> Op<Value>
     ensures meant { UnlessMemory result (changes (dict_method method dict (key.now ∷ [])) objects.old fuel.old ≡ (result, objects.new, fuel.new)) }
     ensures unchanged { UnlessDone result (objects.new ≡ objects.old) }
+    ensures fuel { fuel.new ≤ fuel.old }
 {
     match method {
         DictMethod::Get => get_or(dict, key, &Value::None, objects, fuel),
-        DictMethod::SetDefault => set_default(dict, key, &Value::None, objects, fuel),
+        DictMethod::SetDefault => objects.dict_set_default(dict, key, &Value::None, fuel),
         DictMethod::Pop => pop_key(dict, key, objects, fuel),
-        DictMethod::Keys => Op::Raises(BuiltClass::TypeError),
-        DictMethod::Values => Op::Raises(BuiltClass::TypeError),
-        DictMethod::Items => Op::Raises(BuiltClass::TypeError),
-        DictMethod::Clear => Op::Raises(BuiltClass::TypeError),
-        DictMethod::Copy => Op::Raises(BuiltClass::TypeError),
+        _ => Op::Raises(BuiltClass::TypeError),
     }
 }
 
@@ -194,16 +145,13 @@ fn dict_method_of_two(
 ) -> Op<Value>
     ensures meant { UnlessMemory result (changes (dict_method method dict (key.now ∷ other.now ∷ [])) objects.old fuel.old ≡ (result, objects.new, fuel.new)) }
     ensures unchanged { UnlessDone result (objects.new ≡ objects.old) }
+    ensures fuel { fuel.new ≤ fuel.old }
 {
     match method {
         DictMethod::Get => get_or(dict, key, other, objects, fuel),
-        DictMethod::SetDefault => set_default(dict, key, other, objects, fuel),
+        DictMethod::SetDefault => objects.dict_set_default(dict, key, other, fuel),
         DictMethod::Pop => pop_or(dict, key, other, objects, fuel),
-        DictMethod::Keys => Op::Raises(BuiltClass::TypeError),
-        DictMethod::Values => Op::Raises(BuiltClass::TypeError),
-        DictMethod::Items => Op::Raises(BuiltClass::TypeError),
-        DictMethod::Clear => Op::Raises(BuiltClass::TypeError),
-        DictMethod::Copy => Op::Raises(BuiltClass::TypeError),
+        _ => Op::Raises(BuiltClass::TypeError),
     }
 }
 
@@ -217,6 +165,7 @@ pub(crate) fn dict_method(
 ) -> Op<Value>
     ensures meant { UnlessMemory result (changes (dict_method method dict args.now) objects.old fuel.old ≡ (result, objects.new, fuel.new)) }
     ensures unchanged { UnlessDone result (objects.new ≡ objects.old) }
+    ensures fuel { fuel.new ≤ fuel.old }
 {
     match args {
         [] => dict_method_alone(method, dict, objects, fuel),

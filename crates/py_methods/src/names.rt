@@ -6,8 +6,8 @@ ghost use Rattle.py_meaning.specs.Methods.{named, is_among, list_methods, dict_m
 use py_meaning::{DictMethod, ListMethod, TextMethod};
 use pyn_base::Name;
 
-/// What stands under a name in a table.
-fn named<M: Copy>(rows: &[(&str, M)], name: &Name) -> Option<M>
+/// The method that a table has under a name.
+fn method_named<M: Copy>(rows: &[(&str, M)], name: &Name) -> Option<M>
     ensures { result ≡ named (map (λ row. (chars row.0.now, row.1)) rows.now) name.now }
 {
     for row in rows {
@@ -30,7 +30,7 @@ fn is_among(names: &[&str], name: &Name) -> bool
 pub(crate) fn list_method_named(name: &Name) -> Option<ListMethod>
     ensures { result ≡ named list_methods name.now }
 {
-    named(
+    method_named(
         &[
             ("append", ListMethod::Append),
             ("pop", ListMethod::Pop),
@@ -52,7 +52,7 @@ pub(crate) fn list_method_named(name: &Name) -> Option<ListMethod>
 pub(crate) fn dict_method_named(name: &Name) -> Option<DictMethod>
     ensures { result ≡ named dict_methods name.now }
 {
-    named(
+    method_named(
         &[
             ("get", DictMethod::Get),
             ("setdefault", DictMethod::SetDefault),
@@ -72,7 +72,7 @@ pub(crate) fn dict_method_named(name: &Name) -> Option<DictMethod>
 pub(crate) fn text_method_named(name: &Name) -> Option<TextMethod>
     ensures { result ≡ named text_methods name.now }
 {
-    named(
+    method_named(
         &[
             ("upper", TextMethod::Upper),
             ("lower", TextMethod::Lower),
@@ -89,24 +89,24 @@ pub(crate) fn text_method_named(name: &Name) -> Option<TextMethod>
     )
 }
 
-// Methods of Python's by which a call leaves.
+// Python's methods that the subset hasn't.
 
 #[tactic(auto, unfolding(std::specs::Prelude::chars))]
-pub(crate) fn is_left_of_list(name: &Name) -> bool
+pub(crate) fn is_unsupported_list_method(name: &Name) -> bool
     ensures { result ≡ is_among left_of_list name.now }
 {
     is_among(&["sort"], name)
 }
 
 #[tactic(auto, unfolding(std::specs::Prelude::chars))]
-pub(crate) fn is_left_of_dict(name: &Name) -> bool
+pub(crate) fn is_unsupported_dict_method(name: &Name) -> bool
     ensures { result ≡ is_among left_of_dict name.now }
 {
     is_among(&["fromkeys", "popitem", "update"], name)
 }
 
 #[tactic(auto, unfolding(std::specs::Prelude::chars))]
-pub(crate) fn is_left_of_tuple(name: &Name) -> bool
+pub(crate) fn is_unsupported_tuple_method(name: &Name) -> bool
     ensures { result ≡ is_among left_of_tuple name.now }
 {
     is_among(&["count", "index"], name)
@@ -114,7 +114,7 @@ pub(crate) fn is_left_of_tuple(name: &Name) -> bool
 
 /// Of integers and truth values.
 #[tactic(auto, unfolding(std::specs::Prelude::chars))]
-pub(crate) fn is_left_of_integer(name: &Name) -> bool
+pub(crate) fn is_unsupported_integer_method(name: &Name) -> bool
     ensures { result ≡ is_among left_of_integer name.now }
 {
     is_among(
@@ -135,7 +135,7 @@ pub(crate) fn is_left_of_integer(name: &Name) -> bool
 }
 
 #[tactic(auto, unfolding(std::specs::Prelude::chars))]
-pub(crate) fn is_left_of_text(name: &Name) -> bool
+pub(crate) fn is_unsupported_text_method(name: &Name) -> bool
     ensures { result ≡ is_among left_of_text name.now }
 {
     is_among(

@@ -1,5 +1,5 @@
 // The methods of strings (the manual, "String Methods"), one function a row. The receiver is a slice of characters.
-ghost use Rattle.std.specs.Prelude.{◌≡◌, ℕ, ◌+◌, ◌-◌, nat_le, if◌then◌else◌, [], ◌∷◌, length, map, List, Some, IfOk, OnErr};
+ghost use Rattle.std.specs.Prelude.{◌≡◌, ◌≤◌, ℕ, ◌+◌, ◌-◌, nat_le, if◌then◌else◌, [], ◌∷◌, length, map, List, Some, IfOk, OnErr};
 ghost use Rattle.std.specs.Option.{option_map};
 ghost use Rattle.py_meaning.specs.Steps.{changes, costs, done, raises, UnlessMemory, UnlessDone};
 ghost use Rattle.py_meaning.specs.Worlds.{World};
@@ -9,18 +9,19 @@ ghost use Rattle.py_meaning.specs.Texts.{upper, lower, are_digits, is_blank, is_
 ghost use Rattle.py_meaning.specs.TextMethods.{of_ascii, text, strip_by, list_of_texts, cut_at, split_by, text_and, texts_of, join_texts, join_walked, test_by, replace_by, or_minus_one, find_by, text_method};
 ghost use Rattle.py_meaning.specs.declared.value.Value.{out-Value};
 
-use py_meaning::{Object, Op, PyStr, TextMethod, Value};
+use py_meaning::{Object, Op, PyStr, TextMethod, Value, done, made};
 use py_objects::{Objects, pay};
 use py_text::{
-    are_digits, begins_with, finishes_with, first_place, is_ascii, joined, joined_length, lower,
-    pieces, replaced, replaced_length, upper, without_blanks, without_characters, words,
+    are_digits, begins_with, copied, finishes_with, first_place, is_ascii, joined, joined_length,
+    lower, pieces, replaced, replaced_length, upper, without_blanks, without_characters, words,
 };
 use pyn_base::{BuiltClass, Construct, Fuel, Memory, PyInt};
 use std::alloc::Global;
 
 /// What isn't a string raises, at a step for each character.
 fn type_error(s: &[char], fuel: &mut Fuel) -> Op<Value>
-    ensures { costs (length s.now) (raises BuiltClass.TypeError) fuel.old ≡ (result, fuel.new) }
+    ensures meant { costs (length s.now) (raises BuiltClass.TypeError) fuel.old ≡ (result, fuel.new) }
+    ensures fuel { fuel.new ≤ fuel.old }
 {
     if fuel.take(s.len() as u64) {
         Op::Raises(BuiltClass::TypeError)
@@ -29,15 +30,9 @@ fn type_error(s: &[char], fuel: &mut Fuel) -> Op<Value>
     }
 }
 
-/// A string with these characters, at no cost of its own.
-fn owned(alloc: Global, s: &[char]) -> Result<Value, Memory>
-    ensures { IfOk result (λ made. made ≡ Value.Str s.now) }
-{
-    Ok(Value::Str(PyStr::from_vec(alloc, Vec::from_slice(alloc, s)?)?))
-}
-
 fn upper_of(alloc: Global, s: &[char], fuel: &mut Fuel) -> Op<Value>
-    ensures { UnlessMemory result (of_ascii s.now (text (map upper s.now)) fuel.old ≡ (result, fuel.new)) }
+    ensures meant { UnlessMemory result (of_ascii s.now (text (map upper s.now)) fuel.old ≡ (result, fuel.new)) }
+    ensures fuel { fuel.new ≤ fuel.old }
 {
     if !fuel.take(s.len() as u64) {
         return Op::OutOfSteps;
@@ -45,14 +40,12 @@ fn upper_of(alloc: Global, s: &[char], fuel: &mut Fuel) -> Op<Value>
     if !is_ascii(s) {
         return Op::Leaves(Construct::NonAsciiText);
     }
-    match upper(alloc, s) {
-        Ok(made) => Op::Done(Value::Str(made)),
-        Err(Memory) => Op::Memory,
-    }
+    Op::Done(Value::Str(made!(upper(alloc, s))))
 }
 
 fn lower_of(alloc: Global, s: &[char], fuel: &mut Fuel) -> Op<Value>
-    ensures { UnlessMemory result (of_ascii s.now (text (map lower s.now)) fuel.old ≡ (result, fuel.new)) }
+    ensures meant { UnlessMemory result (of_ascii s.now (text (map lower s.now)) fuel.old ≡ (result, fuel.new)) }
+    ensures fuel { fuel.new ≤ fuel.old }
 {
     if !fuel.take(s.len() as u64) {
         return Op::OutOfSteps;
@@ -60,14 +53,12 @@ fn lower_of(alloc: Global, s: &[char], fuel: &mut Fuel) -> Op<Value>
     if !is_ascii(s) {
         return Op::Leaves(Construct::NonAsciiText);
     }
-    match lower(alloc, s) {
-        Ok(made) => Op::Done(Value::Str(made)),
-        Err(Memory) => Op::Memory,
-    }
+    Op::Done(Value::Str(made!(lower(alloc, s))))
 }
 
 fn is_digit(s: &[char], fuel: &mut Fuel) -> Op<Value>
-    ensures { of_ascii s.now (done (Value.Bool (are_digits s.now))) fuel.old ≡ (result, fuel.new) }
+    ensures meant { of_ascii s.now (done (Value.Bool (are_digits s.now))) fuel.old ≡ (result, fuel.new) }
+    ensures fuel { fuel.new ≤ fuel.old }
 {
     if !fuel.take(s.len() as u64) {
         return Op::OutOfSteps;
@@ -79,7 +70,8 @@ fn is_digit(s: &[char], fuel: &mut Fuel) -> Op<Value>
 }
 
 fn strip_blanks(alloc: Global, s: &[char], fuel: &mut Fuel) -> Op<Value>
-    ensures { UnlessMemory result (of_ascii s.now (text (stripped is_blank s.now)) fuel.old ≡ (result, fuel.new)) }
+    ensures meant { UnlessMemory result (of_ascii s.now (text (stripped is_blank s.now)) fuel.old ≡ (result, fuel.new)) }
+    ensures fuel { fuel.new ≤ fuel.old }
 {
     if !fuel.take(s.len() as u64) {
         return Op::OutOfSteps;
@@ -87,35 +79,25 @@ fn strip_blanks(alloc: Global, s: &[char], fuel: &mut Fuel) -> Op<Value>
     if !is_ascii(s) {
         return Op::Leaves(Construct::NonAsciiText);
     }
-    match owned(alloc, without_blanks(s)) {
-        Ok(made) => Op::Done(made),
-        Err(Memory) => Op::Memory,
-    }
-}
-
-/// A string without these characters at its ends, at no cost of its own.
-fn without(alloc: Global, chars: &[char], s: &[char]) -> Result<Value, Memory>
-    ensures { IfOk result (λ made. made ≡ Value.Str (stripped (is_one_of chars.now) s.now)) }
-{
-    owned(alloc, without_characters(alloc, chars, s)?)
+    Op::Done(Value::Str(made!(copied(alloc, without_blanks(s)))))
 }
 
 fn strip_characters(alloc: Global, chars: &[char], s: &[char], fuel: &mut Fuel) -> Op<Value>
-    ensures { UnlessMemory result (costs (length s.now) (text (stripped (is_one_of chars.now) s.now)) fuel.old ≡ (result, fuel.new)) }
+    ensures meant { UnlessMemory result (costs (length s.now) (text (stripped (is_one_of chars.now) s.now)) fuel.old ≡ (result, fuel.new)) }
+    ensures fuel { fuel.new ≤ fuel.old }
 {
     if !fuel.take(s.len() as u64) {
         return Op::OutOfSteps;
     }
-    match without(alloc, chars, s) {
-        Ok(made) => Op::Done(made),
-        Err(Memory) => Op::Memory,
-    }
+    let part = made!(without_characters(alloc, chars, s));
+    Op::Done(Value::Str(made!(copied(alloc, part))))
 }
 
 /// Without the blanks at both ends, or without the characters of a text.
-#[tactic(auto, using(py_meaning::proofs::Folds::views))]
+#[tactic(auto, using(py_meaning::specs::Folds::views))]
 fn strip_by(alloc: Global, x: &Value, s: &[char], fuel: &mut Fuel) -> Op<Value>
-    ensures { UnlessMemory result (strip_by (out-Value x.now) s.now fuel.old ≡ (result, fuel.new)) }
+    ensures meant { UnlessMemory result (strip_by (out-Value x.now) s.now fuel.old ≡ (result, fuel.new)) }
+    ensures fuel { fuel.new ≤ fuel.old }
 {
     match x {
         Value::None => strip_blanks(alloc, s, fuel),
@@ -144,7 +126,7 @@ fn list_of_texts(texts: &[PyStr], objects: &mut Objects) -> Result<Value, Memory
     Ok(Value::Ref(objects.new_list(values)?))
 }
 
-/// What stands between the places of a text. The empty text stands nowhere.
+/// What is between the places of a text. The empty text has no place.
 fn cut_at(part: &[char], s: &[char], objects: &mut Objects) -> Op<Value>
     ensures meant { UnlessMemory result ((left : ℕ) → changes (cut_at part.now s.now) objects.old left ≡ (result, objects.new, left)) }
     ensures unchanged { UnlessDone result (objects.new ≡ objects.old) }
@@ -152,18 +134,14 @@ fn cut_at(part: &[char], s: &[char], objects: &mut Objects) -> Op<Value>
     if part.is_empty() {
         return Op::Raises(BuiltClass::ValueError);
     }
-    match pieces(objects.alloc(), part, s) {
-        Ok(texts) => match list_of_texts(texts.as_slice(), objects) {
-            Ok(list) => Op::Done(list),
-            Err(Memory) => Op::Memory,
-        },
-        Err(Memory) => Op::Memory,
-    }
+    let texts = made!(pieces(objects.alloc(), part, s));
+    Op::Done(made!(list_of_texts(texts.as_slice(), objects)))
 }
 
 fn split_blanks(s: &[char], objects: &mut Objects, fuel: &mut Fuel) -> Op<Value>
     ensures meant { UnlessMemory result (changes (λ world. of_ascii s.now (list_of_texts (words s.now) world)) objects.old fuel.old ≡ (result, objects.new, fuel.new)) }
     ensures unchanged { UnlessDone result (objects.new ≡ objects.old) }
+    ensures fuel { fuel.new ≤ fuel.old }
 {
     if !fuel.take(s.len() as u64) {
         return Op::OutOfSteps;
@@ -171,18 +149,14 @@ fn split_blanks(s: &[char], objects: &mut Objects, fuel: &mut Fuel) -> Op<Value>
     if !is_ascii(s) {
         return Op::Leaves(Construct::NonAsciiText);
     }
-    match words(objects.alloc(), s) {
-        Ok(texts) => match list_of_texts(texts.as_slice(), objects) {
-            Ok(list) => Op::Done(list),
-            Err(Memory) => Op::Memory,
-        },
-        Err(Memory) => Op::Memory,
-    }
+    let texts = made!(words(objects.alloc(), s));
+    Op::Done(made!(list_of_texts(texts.as_slice(), objects)))
 }
 
 fn split_text(part: &[char], s: &[char], objects: &mut Objects, fuel: &mut Fuel) -> Op<Value>
     ensures meant { UnlessMemory result (changes (λ world. costs (length s.now) (cut_at part.now s.now world)) objects.old fuel.old ≡ (result, objects.new, fuel.new)) }
     ensures unchanged { UnlessDone result (objects.new ≡ objects.old) }
+    ensures fuel { fuel.new ≤ fuel.old }
 {
     if !fuel.take(s.len() as u64) {
         return Op::OutOfSteps;
@@ -190,11 +164,12 @@ fn split_text(part: &[char], s: &[char], objects: &mut Objects, fuel: &mut Fuel)
     cut_at(part, s, objects)
 }
 
-/// A list of what stands between runs of blanks, or between the places of a text.
-#[tactic(auto, using(py_meaning::proofs::Folds::views))]
+/// A list of what is between runs of blanks, or between the places of a text.
+#[tactic(auto, using(py_meaning::specs::Folds::views))]
 fn split_by(x: &Value, s: &[char], objects: &mut Objects, fuel: &mut Fuel) -> Op<Value>
     ensures meant { UnlessMemory result (changes (split_by (out-Value x.now) s.now) objects.old fuel.old ≡ (result, objects.new, fuel.new)) }
     ensures unchanged { UnlessDone result (objects.new ≡ objects.old) }
+    ensures fuel { fuel.new ≤ fuel.old }
 {
     match x {
         Value::None => split_blanks(s, objects, fuel),
@@ -204,7 +179,7 @@ fn split_by(x: &Value, s: &[char], objects: &mut Objects, fuel: &mut Fuel) -> Op
 }
 
 /// The characters of a string.
-#[tactic(auto, using(py_meaning::proofs::Folds::views))]
+#[tactic(auto, using(py_meaning::specs::Folds::views))]
 fn text_in(x: &Value) -> Result<Option<PyStr>, Memory>
     ensures { IfOk result (λ found. (texts : List (List ℕ)) → text_and (out-Value x.now) (Some texts) ≡ option_map (λ s. s ∷ texts) found) }
 {
@@ -230,44 +205,39 @@ fn texts_of(alloc: Global, values: &[Value]) -> Result<Option<Vec<PyStr>>, Memor
 
 /// Texts in a row with another between each two, at a step for each character of the result.
 fn join_texts(alloc: Global, s: &[char], texts: &[PyStr], fuel: &mut Fuel) -> Op<Value>
-    ensures { UnlessMemory result (join_texts s.now (Some texts.now) fuel.old ≡ (result, fuel.new)) }
+    ensures meant { UnlessMemory result (join_texts s.now (Some texts.now) fuel.old ≡ (result, fuel.new)) }
+    ensures fuel { fuel.new ≤ fuel.old }
 {
     if !pay(joined_length(s, texts), fuel) {
         return Op::OutOfSteps;
     }
-    match joined(alloc, s, texts) {
-        Ok(made) => Op::Done(Value::Str(made)),
-        Err(Memory) => Op::Memory,
-    }
+    Op::Done(Value::Str(made!(joined(alloc, s, texts))))
 }
 
 fn join_values(alloc: Global, s: &[char], values: &[Value], fuel: &mut Fuel) -> Op<Value>
-    ensures { UnlessMemory result (join_texts s.now (texts_of values.now) fuel.old ≡ (result, fuel.new)) }
+    ensures meant { UnlessMemory result (join_texts s.now (texts_of values.now) fuel.old ≡ (result, fuel.new)) }
+    ensures fuel { fuel.new ≤ fuel.old }
 {
-    match texts_of(alloc, values) {
-        Ok(Some(texts)) => join_texts(alloc, s, texts.as_slice(), fuel),
-        Ok(None) => Op::Raises(BuiltClass::TypeError),
-        Err(Memory) => Op::Memory,
+    match made!(texts_of(alloc, values)) {
+        Some(texts) => join_texts(alloc, s, texts.as_slice(), fuel),
+        None => Op::Raises(BuiltClass::TypeError),
     }
 }
 
 /// The same of what is walked.
 fn join_walked(s: &[char], x: &Value, objects: &Objects, fuel: &mut Fuel) -> Op<Value>
-    ensures { UnlessMemory result (join_walked s.now x.now objects.now fuel.old ≡ (result, fuel.new)) }
+    ensures meant { UnlessMemory result (join_walked s.now x.now objects.now fuel.old ≡ (result, fuel.new)) }
+    ensures fuel { fuel.new ≤ fuel.old }
 {
-    match objects.walk(x, fuel) {
-        Op::Done(items) => join_values(objects.alloc(), s, items.as_slice(), fuel),
-        Op::Raises(class) => Op::Raises(class),
-        Op::Leaves(construct) => Op::Leaves(construct),
-        Op::OutOfSteps => Op::OutOfSteps,
-        Op::Memory => Op::Memory,
-    }
+    let items = done!(objects.walk(x, fuel));
+    join_values(objects.alloc(), s, items.as_slice(), fuel)
 }
 
 /// Whether a text begins with another, at the other's length.
-#[tactic(auto, using(py_meaning::proofs::Folds::views))]
+#[tactic(auto, using(py_meaning::specs::Folds::views))]
 fn starts_by(s: &[char], x: &Value, fuel: &mut Fuel) -> Op<Value>
-    ensures { test_by (begins_with s.now) (out-Value x.now) fuel.old ≡ (result, fuel.new) }
+    ensures meant { test_by (begins_with s.now) (out-Value x.now) fuel.old ≡ (result, fuel.new) }
+    ensures fuel { fuel.new ≤ fuel.old }
 {
     match x {
         Value::Str(part) => {
@@ -281,9 +251,10 @@ fn starts_by(s: &[char], x: &Value, fuel: &mut Fuel) -> Op<Value>
     }
 }
 
-#[tactic(auto, using(py_meaning::proofs::Folds::views))]
+#[tactic(auto, using(py_meaning::specs::Folds::views))]
 fn ends_by(s: &[char], x: &Value, fuel: &mut Fuel) -> Op<Value>
-    ensures { test_by (finishes_with s.now) (out-Value x.now) fuel.old ≡ (result, fuel.new) }
+    ensures meant { test_by (finishes_with s.now) (out-Value x.now) fuel.old ≡ (result, fuel.new) }
+    ensures fuel { fuel.new ≤ fuel.old }
 {
     match x {
         Value::Str(part) => {
@@ -301,6 +272,7 @@ fn ends_by(s: &[char], x: &Value, fuel: &mut Fuel) -> Op<Value>
 fn pay_both(text: usize, made: u128, fuel: &mut Fuel) -> bool
     ensures enough { result ≡ nat_le (text + made) fuel.old }
     ensures left { fuel.new ≡ (if nat_le (text + made) fuel.old then fuel.old - (text + made) else fuel.old) }
+    ensures fuel { fuel.new ≤ fuel.old }
 {
     if made > fuel.left() as u128 {
         return false;
@@ -316,27 +288,23 @@ fn replace_text(
     s: &[char],
     fuel: &mut Fuel,
 ) -> Op<Value>
-    ensures { UnlessMemory result (costs (length s.now + length (replaced part.now new.now s.now)) (text (replaced part.now new.now s.now)) fuel.old ≡ (result, fuel.new)) }
+    ensures meant { UnlessMemory result (costs (length s.now + length (replaced part.now new.now s.now)) (text (replaced part.now new.now s.now)) fuel.old ≡ (result, fuel.new)) }
+    ensures fuel { fuel.new ≤ fuel.old }
 {
     if (fuel.left() as usize) < s.len() {
         return Op::OutOfSteps;
     }
-    let length = match replaced_length(alloc, part, new, s) {
-        Ok(length) => length,
-        Err(Memory) => return Op::Memory,
-    };
+    let length = made!(replaced_length(alloc, part, new, s));
     if !pay_both(s.len(), length, fuel) {
         return Op::OutOfSteps;
     }
-    match replaced(alloc, part, new, s) {
-        Ok(made) => Op::Done(Value::Str(made)),
-        Err(Memory) => Op::Memory,
-    }
+    Op::Done(Value::Str(made!(replaced(alloc, part, new, s))))
 }
 
-#[tactic(auto, using(py_meaning::proofs::Folds::views))]
+#[tactic(auto, using(py_meaning::specs::Folds::views))]
 fn replace_by(alloc: Global, part: &Value, new: &Value, s: &[char], fuel: &mut Fuel) -> Op<Value>
-    ensures { UnlessMemory result (replace_by (out-Value part.now) (out-Value new.now) s.now fuel.old ≡ (result, fuel.new)) }
+    ensures meant { UnlessMemory result (replace_by (out-Value part.now) (out-Value new.now) s.now fuel.old ≡ (result, fuel.new)) }
+    ensures fuel { fuel.new ≤ fuel.old }
 {
     match part {
         Value::Str(part) => match new {
@@ -354,27 +322,26 @@ fn or_minus_one(place: Option<usize>) -> Op<Value>
         Some(at) => Op::Done(Value::Int(PyInt::from(at as u64))),
         None => match PyInt::new(-1) {
             Some(n) => Op::Done(Value::Int(n)),
-            None => Op::Memory,
+            None => unreachable!(),
         },
     }
 }
 
 fn find_text(alloc: Global, part: &[char], s: &[char], fuel: &mut Fuel) -> Op<Value>
-    ensures { UnlessMemory result (costs (length s.now + length part.now) (or_minus_one (first_place part.now s.now)) fuel.old ≡ (result, fuel.new)) }
+    ensures meant { UnlessMemory result (costs (length s.now + length part.now) (or_minus_one (first_place part.now s.now)) fuel.old ≡ (result, fuel.new)) }
+    ensures fuel { fuel.new ≤ fuel.old }
 {
     if !fuel.take(s.len() as u64 + part.len() as u64) {
         return Op::OutOfSteps;
     }
-    match first_place(alloc, part, s) {
-        Ok(place) => or_minus_one(place),
-        Err(Memory) => Op::Memory,
-    }
+    or_minus_one(made!(first_place(alloc, part, s)))
 }
 
 /// The first place of a text, or -1.
-#[tactic(auto, using(py_meaning::proofs::Folds::views))]
+#[tactic(auto, using(py_meaning::specs::Folds::views))]
 fn find_by(alloc: Global, x: &Value, s: &[char], fuel: &mut Fuel) -> Op<Value>
-    ensures { UnlessMemory result (find_by (out-Value x.now) s.now fuel.old ≡ (result, fuel.new)) }
+    ensures meant { UnlessMemory result (find_by (out-Value x.now) s.now fuel.old ≡ (result, fuel.new)) }
+    ensures fuel { fuel.new ≤ fuel.old }
 {
     match x {
         Value::Str(part) => find_text(alloc, part.as_slice(), s, fuel),
@@ -383,7 +350,7 @@ fn find_by(alloc: Global, x: &Value, s: &[char], fuel: &mut Fuel) -> Op<Value>
 }
 
 /// What takes no argument.
-#[tactic(auto, using(py_meaning::proofs::Folds::views))]
+#[tactic(auto, using(py_meaning::specs::Folds::views))]
 fn text_method_alone(
     method: TextMethod,
     s: &[char],
@@ -392,6 +359,7 @@ fn text_method_alone(
 ) -> Op<Value>
     ensures meant { UnlessMemory result (changes (text_method method s.now []) objects.old fuel.old ≡ (result, objects.new, fuel.new)) }
     ensures unchanged { UnlessDone result (objects.new ≡ objects.old) }
+    ensures fuel { fuel.new ≤ fuel.old }
 {
     match method {
         TextMethod::Upper => upper_of(objects.alloc(), s, fuel),
@@ -399,11 +367,7 @@ fn text_method_alone(
         TextMethod::IsDigit => is_digit(s, fuel),
         TextMethod::Strip => strip_blanks(objects.alloc(), s, fuel),
         TextMethod::Split => split_blanks(s, objects, fuel),
-        TextMethod::Join => Op::Raises(BuiltClass::TypeError),
-        TextMethod::StartsWith => Op::Raises(BuiltClass::TypeError),
-        TextMethod::EndsWith => Op::Raises(BuiltClass::TypeError),
-        TextMethod::Replace => Op::Raises(BuiltClass::TypeError),
-        TextMethod::Find => Op::Raises(BuiltClass::TypeError),
+        _ => Op::Raises(BuiltClass::TypeError),
     }
 }
 
@@ -417,6 +381,7 @@ fn text_method_of(
 ) -> Op<Value>
     ensures meant { UnlessMemory result (changes (text_method method s.now (x.now ∷ [])) objects.old fuel.old ≡ (result, objects.new, fuel.new)) }
     ensures unchanged { UnlessDone result (objects.new ≡ objects.old) }
+    ensures fuel { fuel.new ≤ fuel.old }
 {
     match method {
         TextMethod::Strip => strip_by(objects.alloc(), x, s, fuel),
@@ -425,10 +390,7 @@ fn text_method_of(
         TextMethod::StartsWith => starts_by(s, x, fuel),
         TextMethod::EndsWith => ends_by(s, x, fuel),
         TextMethod::Find => find_by(objects.alloc(), x, s, fuel),
-        TextMethod::Upper => Op::Raises(BuiltClass::TypeError),
-        TextMethod::Lower => Op::Raises(BuiltClass::TypeError),
-        TextMethod::IsDigit => Op::Raises(BuiltClass::TypeError),
-        TextMethod::Replace => Op::Raises(BuiltClass::TypeError),
+        _ => Op::Raises(BuiltClass::TypeError),
     }
 }
 
@@ -443,6 +405,7 @@ fn text_method_of_two(
 ) -> Op<Value>
     ensures meant { UnlessMemory result (changes (text_method method s.now (part.now ∷ new.now ∷ [])) objects.old fuel.old ≡ (result, objects.new, fuel.new)) }
     ensures unchanged { UnlessDone result (objects.new ≡ objects.old) }
+    ensures fuel { fuel.new ≤ fuel.old }
 {
     match method {
         TextMethod::Replace => replace_by(objects.alloc(), part, new, s, fuel),
@@ -450,11 +413,7 @@ fn text_method_of_two(
         TextMethod::StartsWith => Op::Leaves(Construct::Argument),
         TextMethod::EndsWith => Op::Leaves(Construct::Argument),
         TextMethod::Find => Op::Leaves(Construct::Argument),
-        TextMethod::Upper => Op::Raises(BuiltClass::TypeError),
-        TextMethod::Lower => Op::Raises(BuiltClass::TypeError),
-        TextMethod::IsDigit => Op::Raises(BuiltClass::TypeError),
-        TextMethod::Strip => Op::Raises(BuiltClass::TypeError),
-        TextMethod::Join => Op::Raises(BuiltClass::TypeError),
+        _ => Op::Raises(BuiltClass::TypeError),
     }
 }
 
@@ -467,12 +426,7 @@ fn text_method_of_three(method: TextMethod) -> Op<Value>
         TextMethod::EndsWith => Op::Leaves(Construct::Argument),
         TextMethod::Replace => Op::Leaves(Construct::Argument),
         TextMethod::Find => Op::Leaves(Construct::Argument),
-        TextMethod::Upper => Op::Raises(BuiltClass::TypeError),
-        TextMethod::Lower => Op::Raises(BuiltClass::TypeError),
-        TextMethod::IsDigit => Op::Raises(BuiltClass::TypeError),
-        TextMethod::Strip => Op::Raises(BuiltClass::TypeError),
-        TextMethod::Split => Op::Raises(BuiltClass::TypeError),
-        TextMethod::Join => Op::Raises(BuiltClass::TypeError),
+        _ => Op::Raises(BuiltClass::TypeError),
     }
 }
 
@@ -486,6 +440,7 @@ pub(crate) fn text_method(
 ) -> Op<Value>
     ensures meant { UnlessMemory result (changes (text_method method s.now args.now) objects.old fuel.old ≡ (result, objects.new, fuel.new)) }
     ensures unchanged { UnlessDone result (objects.new ≡ objects.old) }
+    ensures fuel { fuel.new ≤ fuel.old }
 {
     match args {
         [] => text_method_alone(method, s, objects, fuel),

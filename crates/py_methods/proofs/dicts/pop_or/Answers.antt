@@ -1,5 +1,5 @@
-use Rattle.py_methods.proofs.Settled.{passed}
+use Rattle.py_methods.proofs.Settled.{not_raised}
 use Rattle.py_methods.proofs.dicts.pop_or.Goals as goal
 
-pub returns-in-Leaves-clause-meant : goal.returns-in-Leaves-clause-meant
-returns-in-Leaves-clause-meant c = passed _ _ _ _ _ _ _ c.in-Leaves.ensures.meant
+pub returns-in_default-clause-meant : goal.returns-in_default-clause-meant
+returns-in_default-clause-meant c = not_raised _ _ _ _ _ _ _ c.in_default.not-Raises c.pop_key.ensures.meant

@@ -1,3 +1,3 @@
-pub mod Behind
+pub mod Kept
 pub mod Arguments
 pub mod Integers

@@ -1,5 +1,5 @@
 // A call of a built-in function or type.
-ghost use Rattle.std.specs.Prelude.{◌≡◌};
+ghost use Rattle.std.specs.Prelude.{◌≡◌, ◌≤◌};
 ghost use Rattle.py_meaning.specs.Steps.{changes, UnlessMemory, UnlessDone};
 ghost use Rattle.py_meaning.specs.Builtins.{call_builtin};
 
@@ -24,6 +24,7 @@ pub fn call_builtin(
 ) -> Op<Value>
     ensures meant { UnlessMemory result (changes (call_builtin id args.now) objects.old fuel.old ≡ (result, objects.new, fuel.new)) }
     ensures unchanged { UnlessDone result (objects.new ≡ objects.old) }
+    ensures fuel { fuel.new ≤ fuel.old }
 {
     match id {
         Builtin::Len => len_row(args, objects),

@@ -1,14 +1,16 @@
 // Rows on collections: lengths and truth values, and new lists, tuples and dicts.
-ghost use Rattle.std.specs.Prelude.{◌≡◌, ℕ};
+ghost use Rattle.std.specs.Prelude.{◌≡◌, ◌≤◌, ℕ, []};
 ghost use Rattle.py_meaning.specs.Steps.{changes, UnlessMemory, UnlessDone};
+ghost use Rattle.py_meaning.specs.Tuples.{tuple};
 ghost use Rattle.py_meaning.specs.Worlds.{object_at};
 ghost use Rattle.py_meaning.specs.Operations.{kind_of};
 ghost use Rattle.py_meaning.specs.declared.value.Value.{out-Value};
 ghost use Rattle.py_meaning.specs.Builtins.{len_row, bool_row, list_row, tuple_row, dict_row, dict_of_value, dict_of_object};
-ghost use Rattle.py_builtins.specs.Held.{named};
 
+use py_meaning::{done, made};
 use py_objects::{ObjKind, Objects, Op, PyTuple, Value};
-use pyn_base::{BuiltClass, Construct, Fuel, Memory, ObjId, PyInt};
+use pyn_base::{BuiltClass, Construct, Fuel, ObjId, PyInt};
+use std::alloc::Global;
 
 /// What is walked has a length.
 pub(crate) fn len_row(args: &[Value], objects: &Objects) -> Op<Value>
@@ -37,12 +39,10 @@ pub(crate) fn bool_row(args: &[Value], objects: &Objects) -> Op<Value>
 pub(crate) fn list_row(args: &[Value], objects: &mut Objects, fuel: &mut Fuel) -> Op<Value>
     ensures meant { UnlessMemory result (changes (list_row args.now) objects.old fuel.old ≡ (result, objects.new, fuel.new)) }
     ensures unchanged { UnlessDone result (objects.new ≡ objects.old) }
+    ensures fuel { fuel.new ≤ fuel.old }
 {
     match args {
-        [] => match objects.new_list(Vec::new(objects.alloc())) {
-            Ok(id) => Op::Done(Value::Ref(id)),
-            Err(Memory) => Op::Memory,
-        },
+        [] => Op::Done(Value::Ref(made!(objects.new_list(Vec::new(objects.alloc()))))),
         [value] => objects.list_of(value, fuel),
         _ => Op::Raises(BuiltClass::TypeError),
     }
@@ -50,15 +50,23 @@ pub(crate) fn list_row(args: &[Value], objects: &mut Objects, fuel: &mut Fuel) -
 
 /// A tuple, at a step for each part.
 pub(crate) fn tuple_row(args: &[Value], objects: &Objects, fuel: &mut Fuel) -> Op<Value>
-    ensures { UnlessMemory result (tuple_row args.now objects.now fuel.old ≡ (result, fuel.new)) }
+    ensures meant { UnlessMemory result (tuple_row args.now objects.now fuel.old ≡ (result, fuel.new)) }
+    ensures fuel { fuel.new ≤ fuel.old }
 {
     match args {
-        [] => match PyTuple::from_vec(objects.alloc(), Vec::new(objects.alloc())) {
-            Ok(parts) => Op::Done(Value::Tuple(parts)),
-            Err(Memory) => Op::Memory,
-        },
+        [] => empty_tuple(objects.alloc()),
         [value] => objects.tuple_of(value, fuel),
         _ => Op::Raises(BuiltClass::TypeError),
+    }
+}
+
+#[tactic(auto, unfolding(py_meaning::specs::Tuples::tuple))]
+fn empty_tuple(alloc: Global) -> Op<Value>
+    ensures { UnlessMemory result (result ≡ Op.Done (tuple [])) }
+{
+    match made!(PyTuple::new(alloc, Vec::new(alloc))) {
+        Some(tuple) => Op::Done(Value::Tuple(tuple)),
+        None => unreachable!(),
     }
 }
 
@@ -66,18 +74,20 @@ pub(crate) fn tuple_row(args: &[Value], objects: &Objects, fuel: &mut Fuel) -> O
 pub(crate) fn dict_row(args: &[Value], objects: &mut Objects, fuel: &mut Fuel) -> Op<Value>
     ensures meant { UnlessMemory result (changes (dict_row args.now) objects.old fuel.old ≡ (result, objects.new, fuel.new)) }
     ensures unchanged { UnlessDone result (objects.new ≡ objects.old) }
+    ensures fuel { fuel.new ≤ fuel.old }
 {
     match args {
-        [] => named(objects.make_dict(&[], fuel)),
+        [] => Op::Done(Value::Ref(done!(objects.make_dict(&[], fuel)))),
         [value] => dict_of_value(value, objects, fuel),
         _ => Op::Raises(BuiltClass::TypeError),
     }
 }
 
-#[tactic(auto, using(py_meaning::proofs::Folds::views))]
+#[tactic(auto, using(py_meaning::specs::Folds::views))]
 fn dict_of_value(value: &Value, objects: &mut Objects, fuel: &mut Fuel) -> Op<Value>
     ensures meant { UnlessMemory result (changes (dict_of_value (out-Value value.now)) objects.old fuel.old ≡ (result, objects.new, fuel.new)) }
     ensures unchanged { UnlessDone result (objects.new ≡ objects.old) }
+    ensures fuel { fuel.new ≤ fuel.old }
 {
     match value {
         Value::Ref(id) => dict_of_object(*id, objects, fuel),
@@ -88,23 +98,11 @@ fn dict_of_value(value: &Value, objects: &mut Objects, fuel: &mut Fuel) -> Op<Va
 fn dict_of_object(id: ObjId, objects: &mut Objects, fuel: &mut Fuel) -> Op<Value>
     ensures meant { UnlessMemory result (changes (dict_of_object (kind_of (object_at objects.old id)) id) objects.old fuel.old ≡ (result, objects.new, fuel.new)) }
     ensures unchanged { UnlessDone result (objects.new ≡ objects.old) }
+    ensures fuel { fuel.new ≤ fuel.old }
 {
     match objects.kind(id) {
-        ObjKind::Dict => named(objects.dict_copy(id, fuel)),
+        ObjKind::Dict => Op::Done(Value::Ref(done!(objects.dict_copy(id, fuel)))),
         ObjKind::List => Op::Leaves(Construct::Argument),
         ObjKind::Instance(_) => Op::Leaves(Construct::Argument),
-    }
-}
-
-/// The value that names a new object.
-fn named(made: Op<ObjId>) -> Op<Value>
-    ensures { result ≡ named made }
-{
-    match made {
-        Op::Done(id) => Op::Done(Value::Ref(id)),
-        Op::Raises(class) => Op::Raises(class),
-        Op::Leaves(construct) => Op::Leaves(construct),
-        Op::OutOfSteps => Op::OutOfSteps,
-        Op::Memory => Op::Memory,
     }
 }

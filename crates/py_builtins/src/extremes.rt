@@ -1,11 +1,12 @@
 // `min` and `max`: the first of the least or the greatest.
-ghost use Rattle.std.specs.Prelude.{◌≡◌, ◌∷◌, []};
+ghost use Rattle.std.specs.Prelude.{◌≡◌, ◌≤◌, ◌∷◌, []};
 ghost use Rattle.py_meaning.specs.Steps.{UnlessMemory};
 ghost use Rattle.py_meaning.specs.Builtins.{best_row, best, best_from};
 ghost use Rattle.py_builtins.specs.Extremes.{better};
 
+use py_meaning::{done, made};
 use py_objects::{Objects, Op, Order, Value};
-use pyn_base::{BuiltClass, Fuel, Memory};
+use pyn_base::{BuiltClass, Fuel};
 
 /// Which of many values is wanted.
 #[derive(Clone, Copy)]
@@ -21,7 +22,8 @@ pub(crate) fn best_row(
     objects: &Objects,
     fuel: &mut Fuel,
 ) -> Op<Value>
-    ensures { UnlessMemory result (best_row (better which objects.now) args.now objects.now fuel.old ≡ (result, fuel.new)) }
+    ensures meant { UnlessMemory result (best_row (better which objects.now) args.now objects.now fuel.old ≡ (result, fuel.new)) }
+    ensures fuel { fuel.new ≤ fuel.old }
 {
     match args {
         [] => Op::Raises(BuiltClass::TypeError),
@@ -37,20 +39,17 @@ pub(crate) fn best_row(
 }
 
 fn best_item(which: Extreme, value: &Value, objects: &Objects, fuel: &mut Fuel) -> Op<Value>
-    ensures { UnlessMemory result (best_row (better which objects.now) (value.now ∷ []) objects.now fuel.old ≡ (result, fuel.new)) }
+    ensures meant { UnlessMemory result (best_row (better which objects.now) (value.now ∷ []) objects.now fuel.old ≡ (result, fuel.new)) }
+    ensures fuel { fuel.new ≤ fuel.old }
 {
-    match objects.walk(value, fuel) {
-        Op::Done(items) => best(which, items.as_slice(), objects, fuel),
-        Op::Raises(class) => Op::Raises(class),
-        Op::Leaves(construct) => Op::Leaves(construct),
-        Op::OutOfSteps => Op::OutOfSteps,
-        Op::Memory => Op::Memory,
-    }
+    let items = done!(objects.walk(value, fuel));
+    best(which, items.as_slice(), objects, fuel)
 }
 
 /// The best of all items; of none ValueError is raised.
 fn best(which: Extreme, items: &[Value], objects: &Objects, fuel: &mut Fuel) -> Op<Value>
-    ensures { UnlessMemory result (best (better which objects.now) items.now fuel.old ≡ (result, fuel.new)) }
+    ensures meant { UnlessMemory result (best (better which objects.now) items.now fuel.old ≡ (result, fuel.new)) }
+    ensures fuel { fuel.new ≤ fuel.old }
 {
     match items {
         [] => Op::Raises(BuiltClass::ValueError),
@@ -66,26 +65,16 @@ fn best_from(
     objects: &Objects,
     fuel: &mut Fuel,
 ) -> Op<Value>
-    ensures { UnlessMemory result (best_from (better which objects.now) first.now rest.now fuel.old ≡ (result, fuel.new)) }
+    ensures meant { UnlessMemory result (best_from (better which objects.now) first.now rest.now fuel.old ≡ (result, fuel.new)) }
+    ensures fuel { fuel.new ≤ fuel.old }
 {
     let mut best = first;
     for item in rest {
-        match better(which, item, best, objects, fuel) {
-            Op::Done(yes) => {
-                if yes {
-                    best = item;
-                }
-            }
-            Op::Raises(class) => return Op::Raises(class),
-            Op::Leaves(construct) => return Op::Leaves(construct),
-            Op::OutOfSteps => return Op::OutOfSteps,
-            Op::Memory => return Op::Memory,
+        if done!(better(which, item, best, objects, fuel)) {
+            best = item;
         }
     }
-    match best.share() {
-        Ok(value) => Op::Done(value),
-        Err(Memory) => Op::Memory,
-    }
+    Op::Done(made!(best.share()))
 }
 
 /// Whether an item is put in another's place.
@@ -96,7 +85,8 @@ fn better(
     objects: &Objects,
     fuel: &mut Fuel,
 ) -> Op<bool>
-    ensures { better which objects.now item.now best.now fuel.old ≡ (result, fuel.new) }
+    ensures meant { better which objects.now item.now best.now fuel.old ≡ (result, fuel.new) }
+    ensures fuel { fuel.new ≤ fuel.old }
 {
     match which {
         Extreme::Least => objects.order(Order::Less, item, best, fuel),

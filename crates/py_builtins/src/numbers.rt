@@ -1,5 +1,5 @@
 // `abs` and `int`.
-ghost use Rattle.std.specs.Prelude.{◌≡◌, ℕ, Some, pos, nat_abs};
+ghost use Rattle.std.specs.Prelude.{◌≡◌, ◌≤◌, ℕ, Some, pos, nat_abs};
 ghost use Rattle.py_meaning.specs.Steps.{UnlessMemory};
 ghost use Rattle.py_meaning.specs.declared.value.Value.{out-Value};
 ghost use Rattle.py_meaning.specs.Builtins.{abs_row, int_row, integer_of, integer_of_text, integer_or_type_error};
@@ -25,16 +25,19 @@ fn absolute(n: PyInt) -> PyInt
     ensures { result ≡ pos (nat_abs n) }
 {
     let zero = PyInt::from(0);
-    if n.is_less(zero) {
-        zero.sub(n).unwrap_or(zero)
-    } else {
-        n
+    if !n.is_less(zero) {
+        return n;
+    }
+    match zero.sub(n) {
+        Some(size) => size,
+        None => unreachable!(),
     }
 }
 
 /// The integer of a text, at a step for each character, or of a number.
 pub(crate) fn int_row(args: &[Value], fuel: &mut Fuel) -> Op<Value>
-    ensures { int_row args.now fuel.old ≡ (result, fuel.new) }
+    ensures meant { int_row args.now fuel.old ≡ (result, fuel.new) }
+    ensures fuel { fuel.new ≤ fuel.old }
 {
     match args {
         [] => Op::Done(Value::Int(PyInt::from(0))),
@@ -44,9 +47,10 @@ pub(crate) fn int_row(args: &[Value], fuel: &mut Fuel) -> Op<Value>
     }
 }
 
-#[tactic(auto, using(py_meaning::proofs::Folds::views))]
+#[tactic(auto, using(py_meaning::specs::Folds::views))]
 fn integer_of(value: &Value, fuel: &mut Fuel) -> Op<Value>
-    ensures { integer_of (out-Value value.now) fuel.old ≡ (result, fuel.new) }
+    ensures meant { integer_of (out-Value value.now) fuel.old ≡ (result, fuel.new) }
+    ensures fuel { fuel.new ≤ fuel.old }
 {
     match value {
         Value::Str(text) => integer_of_text(text.as_slice(), fuel),
@@ -66,7 +70,8 @@ fn integer_or_type_error(n: Option<PyInt>) -> Op<Value>
 }
 
 fn integer_of_text(text: &[char], fuel: &mut Fuel) -> Op<Value>
-    ensures { integer_of_text text.now fuel.old ≡ (result, fuel.new) }
+    ensures meant { integer_of_text text.now fuel.old ≡ (result, fuel.new) }
+    ensures fuel { fuel.new ≤ fuel.old }
 {
     if !fuel.take(text.len() as u64) {
         Op::OutOfSteps

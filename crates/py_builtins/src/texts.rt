@@ -1,12 +1,13 @@
 // `str`: the texts of values and of exceptions.
-ghost use Rattle.std.specs.Prelude.{◌≡◌, [], Some, codes, IfOk};
-ghost use Rattle.std.specs.Option.{option_copied};
+ghost use Rattle.std.specs.Prelude.{◌≡◌, ◌≤◌, [], Some, codes, IfOk};
+ghost use Rattle.std.specs.Option.{option_copied, option_map};
 ghost use Rattle.py_meaning.specs.Steps.{UnlessMemory};
 ghost use Rattle.py_meaning.specs.declared.value.Value.{out-Value};
 ghost use Rattle.py_meaning.specs.Worlds.{object_at};
 ghost use Rattle.py_meaning.specs.Operations.{kind_of, args_of};
 ghost use Rattle.py_meaning.specs.Builtins.{str_row, text_of_value, text_of_object, text_of_args, text_or_leaves, plain_text};
 
+use py_meaning::made;
 use py_objects::{ObjKind, Objects, Op, PyStr, PyTuple, Value, is_same_class};
 use py_text::{integer_text, truth_text};
 use pyn_base::{BuiltClass, ClassId, Construct, Fuel, Memory, ObjId};
@@ -14,7 +15,8 @@ use std::alloc::Global;
 
 /// The text of a value, at a step for each of its characters.
 pub(crate) fn str_row(args: &[Value], objects: &Objects, fuel: &mut Fuel) -> Op<Value>
-    ensures { UnlessMemory result (str_row args.now objects.now fuel.old ≡ (result, fuel.new)) }
+    ensures meant { UnlessMemory result (str_row args.now objects.now fuel.old ≡ (result, fuel.new)) }
+    ensures fuel { fuel.new ≤ fuel.old }
 {
     match args {
         [] => empty_text(objects.alloc()),
@@ -28,15 +30,13 @@ pub(crate) fn str_row(args: &[Value], objects: &Objects, fuel: &mut Fuel) -> Op<
 fn empty_text(alloc: Global) -> Op<Value>
     ensures { UnlessMemory result (result ≡ Op.Done (Value.Str [])) }
 {
-    match PyStr::from_vec(alloc, Vec::new(alloc)) {
-        Ok(text) => Op::Done(Value::Str(text)),
-        Err(Memory) => Op::Memory,
-    }
+    Op::Done(Value::Str(made!(PyStr::from_vec(alloc, Vec::new(alloc)))))
 }
 
-#[tactic(auto, using(py_meaning::proofs::Folds::views))]
+#[tactic(auto, using(py_meaning::specs::Folds::views))]
 fn text_of_value(value: &Value, objects: &Objects, fuel: &mut Fuel) -> Op<Value>
-    ensures { UnlessMemory result (text_of_value (out-Value value.now) objects.now fuel.old ≡ (result, fuel.new)) }
+    ensures meant { UnlessMemory result (text_of_value (out-Value value.now) objects.now fuel.old ≡ (result, fuel.new)) }
+    ensures fuel { fuel.new ≤ fuel.old }
 {
     match value {
         Value::Ref(id) => text_of_exception(*id, objects, fuel),
@@ -46,7 +46,8 @@ fn text_of_value(value: &Value, objects: &Objects, fuel: &mut Fuel) -> Op<Value>
 
 /// The text of an exception; other objects have none here.
 fn text_of_exception(id: ObjId, objects: &Objects, fuel: &mut Fuel) -> Op<Value>
-    ensures { UnlessMemory result (text_of_object (kind_of (object_at objects.now id)) (args_of (object_at objects.now id)) fuel.old ≡ (result, fuel.new)) }
+    ensures meant { UnlessMemory result (text_of_object (kind_of (object_at objects.now id)) (option_map (λ args. args.parts) (args_of (object_at objects.now id))) fuel.old ≡ (result, fuel.new)) }
+    ensures fuel { fuel.new ≤ fuel.old }
 {
     match objects.kind(id) {
         ObjKind::Instance(ClassId::Built(class)) => {
@@ -64,7 +65,8 @@ fn text_of_exception(id: ObjId, objects: &Objects, fuel: &mut Fuel) -> Op<Value>
 
 /// What the interpreter gave as arguments isn't known.
 fn text_of_args(alloc: Global, args: Option<&PyTuple>, fuel: &mut Fuel) -> Op<Value>
-    ensures { UnlessMemory result (text_of_args (option_copied args.entry) fuel.old ≡ (result, fuel.new)) }
+    ensures meant { UnlessMemory result (text_of_args (option_map (λ args. args.parts) (option_copied args.entry)) fuel.old ≡ (result, fuel.new)) }
+    ensures fuel { fuel.new ≤ fuel.old }
 {
     match args {
         None => Op::Leaves(Construct::ExceptionText),
@@ -73,7 +75,8 @@ fn text_of_args(alloc: Global, args: Option<&PyTuple>, fuel: &mut Fuel) -> Op<Va
 }
 
 fn text_of_parts(alloc: Global, args: &[Value], fuel: &mut Fuel) -> Op<Value>
-    ensures { UnlessMemory result (text_of_args (Some args.now) fuel.old ≡ (result, fuel.new)) }
+    ensures meant { UnlessMemory result (text_of_args (Some args.now) fuel.old ≡ (result, fuel.new)) }
+    ensures fuel { fuel.new ≤ fuel.old }
 {
     match args {
         [] => empty_text(alloc),
@@ -83,7 +86,7 @@ fn text_of_parts(alloc: Global, args: &[Value], fuel: &mut Fuel) -> Op<Value>
 }
 
 /// The text of None, a bool, an integer or a string. It is short, or the string's own.
-#[tactic(auto, using(py_meaning::proofs::Folds::views))]
+#[tactic(auto, using(py_meaning::specs::Folds::views))]
 fn plain_text(alloc: Global, value: &Value) -> Result<Option<PyStr>, Memory>
     ensures { IfOk result (λ text. text ≡ plain_text (out-Value value.now)) }
 {
@@ -105,16 +108,15 @@ fn none_text(alloc: Global) -> Result<PyStr, Memory>
 
 /// The text of a value, unless it has none here.
 fn plain_text_or_leaves(alloc: Global, value: &Value, fuel: &mut Fuel) -> Op<Value>
-    ensures { UnlessMemory result (text_or_leaves (plain_text (out-Value value.now)) fuel.old ≡ (result, fuel.new)) }
+    ensures meant { UnlessMemory result (text_or_leaves (plain_text (out-Value value.now)) fuel.old ≡ (result, fuel.new)) }
+    ensures fuel { fuel.new ≤ fuel.old }
 {
-    match plain_text(alloc, value) {
-        Ok(text) => text_or_leaves(text, fuel),
-        Err(Memory) => Op::Memory,
-    }
+    text_or_leaves(made!(plain_text(alloc, value)), fuel)
 }
 
 fn text_or_leaves(text: Option<PyStr>, fuel: &mut Fuel) -> Op<Value>
-    ensures { text_or_leaves text fuel.old ≡ (result, fuel.new) }
+    ensures meant { text_or_leaves text fuel.old ≡ (result, fuel.new) }
+    ensures fuel { fuel.new ≤ fuel.old }
 {
     match text {
         Some(text) => {

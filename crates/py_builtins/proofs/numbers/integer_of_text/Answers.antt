@@ -2,6 +2,6 @@ use Rattle.std.proofs.Common.{◌-◌, if◌then◌else◌, length, sym, ◌∙�
 use Rattle.py_builtins.proofs.Integers.{of_ascii}
 use Rattle.py_builtins.proofs.numbers.integer_of_text.Goals as goal
 
-pub returns-then-is_ascii : goal.returns-then-is_ascii
-returns-then-is_ascii c = of_ascii c.args.text.now c.args.fuel.now _ _ (sym c.if-not-take.ensures.enough) (sym c.is_ascii.ensures ∙ c.if-is_ascii.true)
+pub returns-then-is_ascii-clause-meant : goal.returns-then-is_ascii-clause-meant
+returns-then-is_ascii-clause-meant c = of_ascii c.args.text.now c.args.fuel.now _ _ (sym c.if-not-take.ensures.enough) (sym c.is_ascii.ensures ∙ c.if-is_ascii.true)
     (c.take.ensures.left ∙ ap (λ b. if b then c.args.fuel.now - length c.args.text.now else c.args.fuel.now) (sym c.if-not-take.ensures.enough)) (c.spelled.ensures _)

@@ -1,6 +1,3 @@
-pub mod Cut
+pub mod Cuts
 pub mod Reads
-pub mod Groups
-pub mod Lists
-pub mod Nests
-pub mod Junctions
+pub mod Levels

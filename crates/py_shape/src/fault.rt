@@ -10,7 +10,7 @@ use std::alloc::AllocError;
 pub enum ExprFault {
     /// The tokens are no expression.
     Refused,
-    /// Memory was wanted and not found.
+    /// Out of memory.
     Memory,
 }
 

@@ -1,20 +1,18 @@
-//! Reads the shape of an expression from its symbols, by climbing precedences from the left.
+//! Reads the shape of an expression from its symbols, by cutting them outside brackets.
 //!
-//! `expression` and `expressions` give exactly the shape that `py_language` defines by cutting the symbols at their marks,
-//! and refuse exactly where that has none; want of memory is the only other answer. There is one function for each level of
-//! the grammar, which `and` and `or` share; a long chain of one level is a loop, and calls go deeper only behind brackets, signs,
-//! `not` and `else`, so no deeper than an expression may be. This layer knows nothing of text, of lines or of statements.
-//!
-//! It stands on `py_language`, `py_syntax` and `pyn_base`.
+//! `expression` and `expressions` give exactly the shape that `py_language` defines for the symbols, and refuse exactly
+//! where that has none; out of memory is the only other answer. There is one function for each rule of the grammar, in its
+//! order: what has a separator of the rule is cut there, and what has none belongs to the next rule. Each part is read by the
+//! same functions with a limit that is one less, so calls go no deeper than an expression may be.
+//! This layer knows nothing of text, of lines or of statements.
 #![tactic(auto)]
 
-mod climb;
-mod cursor;
+mod cut;
 mod fault;
-mod junction;
 mod lists;
-mod nodes;
+mod node;
 mod operand;
+mod operators;
 mod read;
 
 pub use fault::ExprFault;

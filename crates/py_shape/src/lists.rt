@@ -1,276 +1,229 @@
-// What stands in brackets: expressions, arguments, and keys with values.
-ghost use Rattle.std.specs.Prelude.{◌≡◌, ◌<◌, ◌-◌, ◌∷◌, List, IfOk, true};
-ghost use Rattle.py_language.specs.TreesPlaces.{Conditional};
-ghost use Rattle.py_language.specs.declared.shape.Bracket.TheVariants.{Round, Square, Brace};
+// Lists of parts: what is between commas, `and`, `or` and comparisons.
+ghost use Rattle.std.specs.Prelude.{◌≡◌, true, List, Option};
+ghost use Rattle.std.specs.Borrow.{Bor};
 ghost use Rattle.py_language.specs.declared.shape.Symbol.{Symbol as SymbolValue};
 ghost use Rattle.py_language.specs.declared.shape.Symbol.TheVariants as symbol;
-ghost use Rattle.py_language.specs.Trees.{shape, argument, arguments, entry, comma_list, rounded, bound};
-ghost use Rattle.py_shape.specs.Groups.{Holds, Subscripts};
-ghost use Rattle.py_shape.specs.Lists.{Item, ReadsItem, ReadsList};
-ghost use Rattle.py_shape.specs.Nests.{Nests};
-ghost use Rattle.py_shape.specs.Reads.{Found};
+ghost use Rattle.py_language.specs.Trees.{shape, comma_list, each, argument, entry};
+ghost use Rattle.py_language.specs.TreesPlaces.{Conditional, Listed, at, pieces};
+ghost use Rattle.py_shape.specs.Cuts.{begins_anew, pieces_from, tail, Eats};
+ghost use Rattle.py_shape.specs.Levels.{Parts, level_of};
+ghost use Rattle.py_shape.specs.Reads.{Gives, Answers, AnswersEach, has, IsNamed, prepend, arguments_in, called, comparand, operands};
 
 use crate::ExprFault;
-use crate::climb::Climber;
-use crate::cursor::{at_end, closed, colon, comma, continued, named};
-use crate::nodes::{index, only, rounded, slice, tuple};
-use py_language::{Bracket, Shape, Symbol};
+use crate::cut::{Separator, colon_cut, cut, first, inside};
+use crate::node::comparator;
+use crate::operators::{Level, Reader};
+use py_language::{Atom, Bracket, Shape, Symbol};
+use py_syntax::CmpOp;
 use pyn_base::Name;
 use sqlite_items::{Boxed, Items};
 use std::alloc::Global;
 
-impl<
-    F: Fn(Global, &[Symbol], usize) -> Result<(Boxed<Shape>, usize, &[Symbol]), ExprFault>,
-> Climber<F> {
-    /// The expressions behind a first one, which is one of the list too, and whether a comma stands there.
-    pub fn others<'a>(
-        &self,
-        first: Boxed<Shape>,
-        height: usize,
-        symbols: &'a [Symbol],
-        limit: usize,
-    ) -> Result<(Items<Shape>, bool, usize, &'a [Symbol]), ExprFault>
-        requires nests { Nests limit (F.pre self.now.inner) (F.post self.now.inner) }
-        requires some { 0 < limit }
-        ensures list { (ys : List SymbolValue) → Item (λ d. shape d Conditional) (limit - 1) ys first height symbols.now → ReadsList (λ d. shape d Conditional) (limit - 1) ys result }
-        ensures comma { (after : List SymbolValue) → symbols.now ≡ symbol.Comma ∷ after → IfOk result (λ r. r.1 ≡ true) }
+/// Whether a comma is outside brackets.
+pub fn has_comma(symbols: &[Symbol]) -> bool
+    ensures { result ≡ has (pieces (at Listed) symbols.now) }
+{
+    let (_item, rest) = cut(Separator::Comma, symbols);
+    match first(rest) {
+        None => false,
+        Some(_) => true,
+    }
+}
+
+/// What is after the first symbol.
+fn tail(symbols: &[Symbol]) -> &[Symbol]
+    ensures { result.now ≡ tail symbols.now }
+{
+    match first(symbols) {
+        None => &[],
+        Some((_symbol, others)) => others,
+    }
+}
+
+/// What is after an opening round bracket, if that is in front.
+fn eat_open(symbols: &[Symbol]) -> Option<&[Symbol]>
+    ensures { Eats (symbol.Open Bracket.Round) symbols.now result }
+{
+    let (symbol, rest) = first(symbols)?;
+    match symbol {
+        Symbol::Open(Bracket::Round) => Some(rest),
+        _ => None,
+    }
+}
+
+/// What is after the `=` in front.
+fn eat_equal(symbols: &[Symbol]) -> Option<&[Symbol]>
+    ensures { Eats symbol.Equal symbols.now result }
+{
+    let (symbol, rest) = first(symbols)?;
+    match symbol {
+        Symbol::Equal => Some(rest),
+        _ => None,
+    }
+}
+
+/// The name of an argument, and what is after its `=`.
+fn eat_name(symbols: &[Symbol]) -> Option<(&Name, &[Symbol])>
+    ensures { IsNamed symbols.now result }
+{
+    let (symbol, rest) = first(symbols)?;
+    match symbol {
+        Symbol::Atom(Atom::Name(name)) => Some((name, eat_equal(rest)?)),
+        _ => None,
+    }
+}
+
+/// The items between commas; a last comma may be after them.
+fn between_commas<T: Drop, G: Fn(&[Symbol]) -> Result<T, ExprFault>>(
+    alloc: Global,
+    symbols: &[Symbol],
+    item: G,
+) -> Result<Items<T>, ExprFault>
+    requires { (part : Bor (List SymbolValue)) → G.pre item part }
+    ensures { (f : List SymbolValue → Option T) → Answers f (G.post item) → Gives result (comma_list f symbols.now) }
+{
+    let mut all = Items::new(alloc);
+    let mut rest = symbols;
+    while let Some(_) = first(rest) {
+        let (part, others) = cut(Separator::Comma, rest);
+        all.push(item(part)?)?;
+        rest = tail(others);
+    }
+    Ok(all)
+}
+
+/// The items after separators, the first of which is in front, put after those that there are.
+fn after_separators<T: Drop, G: Fn(&Symbol, &[Symbol]) -> Result<T, ExprFault>>(
+    begun: Items<T>,
+    separator: Separator,
+    symbols: &[Symbol],
+    item: G,
+) -> Result<Items<T>, ExprFault>
+    requires callable { (symbol : Bor SymbolValue) (part : Bor (List SymbolValue)) → G.pre item symbol part }
+    requires anew { begins_anew separator ≡ true }
+    ensures { (f : SymbolValue × List SymbolValue → Option T) → AnswersEach f (G.post item) → Gives result (prepend begun (each f (pieces_from separator symbols.now))) }
+{
+    let mut all = begun;
+    let mut rest = symbols;
+    while let Some((symbol, after)) = first(rest) {
+        let (part, others) = cut(separator, after);
+        all.push(item(symbol, part)?)?;
+        rest = others;
+    }
+    Ok(all)
+}
+
+impl<F: Fn(Global, Level, &[Symbol], usize) -> Result<Boxed<Shape>, ExprFault>> Reader<F> {
+    /// A part that is put into a list.
+    fn inner(&self, level: Level, symbols: &[Symbol]) -> Result<Shape, ExprFault>
+        requires { Parts self.now.limit (F.pre self.now.part) (F.post self.now.part) }
+        ensures { Gives result (shape self.now.limit (level_of level) symbols.now) }
     {
-        let mut all = only(self.alloc, first)?;
-        let mut most = height;
-        let (comma, mut ready, mut rest) = continued(symbols);
-        while ready {
-            let (part, high, behind) = self.inside(rest, limit)?;
-            all.push(part.into_inner())?;
-            most = most.max(high);
-            let (_again, more, after) = continued(behind);
-            ready = more;
-            rest = after;
-        }
-        Ok((all, comma, most, rest))
+        Ok(self.part(level, symbols)?.into_inner())
     }
 
-    /// Expressions with commas between them, and whether a comma stands there.
-    pub fn elements<'a>(
-        &self,
-        symbols: &'a [Symbol],
-        limit: usize,
-    ) -> Result<(Items<Shape>, bool, usize, &'a [Symbol]), ExprFault>
-        requires nests { Nests limit (F.pre self.now.inner) (F.post self.now.inner) }
-        requires some { 0 < limit }
-        ensures { ReadsList (λ d. shape d Conditional) (limit - 1) symbols.now result }
+    /// Expressions with commas between them.
+    pub fn expressions(&self, symbols: &[Symbol]) -> Result<Items<Shape>, ExprFault>
+        requires { Parts self.now.limit (F.pre self.now.part) (F.post self.now.part) }
+        ensures { Gives result (comma_list (shape self.now.limit Conditional) symbols.now) }
     {
-        if at_end(symbols) {
-            return Ok((Items::new(self.alloc), false, 0, symbols));
-        }
-        let (first, height, behind) = self.inside(symbols, limit)?;
-        self.others(first, height, behind, limit)
-    }
-
-    /// An argument, with its name if it has one.
-    fn argument<'a>(
-        &self,
-        symbols: &'a [Symbol],
-        limit: usize,
-    ) -> Result<((Option<Name>, Shape), usize, &'a [Symbol]), ExprFault>
-        requires nests { Nests limit (F.pre self.now.inner) (F.post self.now.inner) }
-        requires some { 0 < limit }
-        ensures { ReadsItem (λ d. argument (shape d)) (limit - 1) symbols.now result }
-    {
-        if let Some((name, value)) = named(symbols) {
-            let name = name.to_owned(self.alloc)?;
-            let (x, height, rest) = self.inside(value, limit)?;
-            return Ok(((Some(name), x.into_inner()), height, rest));
-        }
-        let (x, height, rest) = self.inside(symbols, limit)?;
-        Ok(((None, x.into_inner()), height, rest))
+        between_commas(
+            self.alloc,
+            symbols,
+            |part| self.inner(Level::Conditional, part),
+        )
     }
 
     /// The arguments of a call, up to the bracket that closes them.
-    pub fn arguments<'a>(
-        &self,
-        symbols: &'a [Symbol],
-        limit: usize,
-    ) -> Result<(Items<(Option<Name>, Shape)>, usize, &'a [Symbol]), ExprFault>
-        requires nests { Nests limit (F.pre self.now.inner) (F.post self.now.inner) }
-        requires some { 0 < limit }
-        ensures { Holds Round (λ d. arguments (shape d)) (limit - 1) symbols.now result }
+    pub fn arguments(&self, symbols: &[Symbol]) -> Result<Items<(Option<Name>, Shape)>, ExprFault>
+        requires { Parts self.now.limit (F.pre self.now.part) (F.post self.now.part) }
+        ensures { Gives result (arguments_in (shape self.now.limit) symbols.now) }
     {
-        let mut all = Items::new(self.alloc);
-        let mut most: usize = 0;
-        let mut rest = symbols;
-        let mut ready = !at_end(symbols);
-        while ready {
-            let (item, high, behind) = self.argument(rest, limit)?;
-            all.push(item)?;
-            most = most.max(high);
-            let (_again, more, after) = continued(behind);
-            ready = more;
-            rest = after;
+        let content = inside(Bracket::Round, symbols)?;
+        between_commas(self.alloc, content, |part| self.argument(part))
+    }
+
+    /// The bracket that opens arguments, and those.
+    pub fn called(&self, symbols: &[Symbol]) -> Result<Items<(Option<Name>, Shape)>, ExprFault>
+        requires { Parts self.now.limit (F.pre self.now.part) (F.post self.now.part) }
+        ensures { Gives result (called (shape self.now.limit) symbols.now) }
+    {
+        match eat_open(symbols) {
+            None => Err(ExprFault::Refused),
+            Some(rest) => self.arguments(rest),
         }
-        let Some(end) = closed(Bracket::Round, rest) else {
-            return Err(ExprFault::Refused);
+    }
+
+    /// An argument, with its name if it has one.
+    fn argument(&self, symbols: &[Symbol]) -> Result<(Option<Name>, Shape), ExprFault>
+        requires { Parts self.now.limit (F.pre self.now.part) (F.post self.now.part) }
+        ensures { Gives result (argument (shape self.now.limit) symbols.now) }
+    {
+        let Some((name, value)) = eat_name(symbols) else {
+            return Ok((None, self.inner(Level::Conditional, symbols)?));
         };
-        Ok((all, most, end))
+        let name = name.to_owned(self.alloc)?;
+        Ok((Some(name), self.inner(Level::Conditional, value)?))
+    }
+
+    /// The keys and values of a dict.
+    pub fn entries(&self, symbols: &[Symbol]) -> Result<Items<(Shape, Shape)>, ExprFault>
+        requires { Parts self.now.limit (F.pre self.now.part) (F.post self.now.part) }
+        ensures { Gives result (comma_list (entry (shape self.now.limit)) symbols.now) }
+    {
+        between_commas(self.alloc, symbols, |part| self.entry(part))
     }
 
     /// A key, a colon and a value.
-    fn entry<'a>(
-        &self,
-        symbols: &'a [Symbol],
-        limit: usize,
-    ) -> Result<((Shape, Shape), usize, &'a [Symbol]), ExprFault>
-        requires nests { Nests limit (F.pre self.now.inner) (F.post self.now.inner) }
-        requires some { 0 < limit }
-        ensures { ReadsItem (λ d. entry (shape d)) (limit - 1) symbols.now result }
+    fn entry(&self, symbols: &[Symbol]) -> Result<(Shape, Shape), ExprFault>
+        requires { Parts self.now.limit (F.pre self.now.part) (F.post self.now.part) }
+        ensures { Gives result (entry (shape self.now.limit) symbols.now) }
     {
-        let (key, height, behind) = self.inside(symbols, limit)?;
-        let Some(after) = colon(behind) else {
+        let Some((key, value)) = colon_cut(symbols) else {
             return Err(ExprFault::Refused);
         };
-        let (value, high, rest) = self.inside(after, limit)?;
-        Ok((
-            (key.into_inner(), value.into_inner()),
-            height.max(high),
-            rest,
-        ))
+        let key = self.inner(Level::Conditional, key)?;
+        Ok((key, self.inner(Level::Conditional, value)?))
     }
 
-    /// The keys and values of a dict, up to the bracket that closes it.
-    pub fn entries<'a>(
+    /// The operands of `and` or `or`: the first one, and those after it from a separator on.
+    pub fn operands(
         &self,
-        symbols: &'a [Symbol],
-        limit: usize,
-    ) -> Result<(Items<(Shape, Shape)>, usize, &'a [Symbol]), ExprFault>
-        requires nests { Nests limit (F.pre self.now.inner) (F.post self.now.inner) }
-        requires some { 0 < limit }
-        ensures { Holds Brace (λ d v. comma_list (entry (shape d)) v) (limit - 1) symbols.now result }
+        level: Level,
+        front: &[Symbol],
+        separator: Separator,
+        others: &[Symbol],
+    ) -> Result<Items<Shape>, ExprFault>
+        requires parts { Parts self.now.limit (F.pre self.now.part) (F.post self.now.part) }
+        requires anew { begins_anew separator ≡ true }
+        ensures { Gives result (operands (shape self.now.limit) (level_of level) front.now (pieces_from separator others.now)) }
     {
         let mut all = Items::new(self.alloc);
-        let mut most: usize = 0;
-        let mut rest = symbols;
-        let mut ready = !at_end(symbols);
-        while ready {
-            let (item, high, behind) = self.entry(rest, limit)?;
-            all.push(item)?;
-            most = most.max(high);
-            let (_again, more, after) = continued(behind);
-            ready = more;
-            rest = after;
-        }
-        let Some(end) = closed(Bracket::Brace, rest) else {
-            return Err(ExprFault::Refused);
-        };
-        Ok((all, most, end))
+        all.push(self.inner(level, front)?)?;
+        after_separators(
+            all,
+            separator,
+            others,
+            |_symbol, part| self.inner(level, part),
+        )
     }
 
-    /// What round brackets hold, up to the one that closes them.
-    pub fn rounded<'a>(
-        &self,
-        symbols: &'a [Symbol],
-        limit: usize,
-    ) -> Result<(Boxed<Shape>, usize, &'a [Symbol]), ExprFault>
-        requires nests { Nests limit (F.pre self.now.inner) (F.post self.now.inner) }
-        requires some { 0 < limit }
-        ensures { Holds Round (λ d. rounded (shape d)) (limit - 1) symbols.now result }
+    /// A comparison, with the operand after it.
+    fn comparand(&self, symbol: &Symbol, part: &[Symbol]) -> Result<(CmpOp, Shape), ExprFault>
+        requires { Parts self.now.limit (F.pre self.now.part) (F.post self.now.part) }
+        ensures { Gives result (comparand (shape self.now.limit) (symbol.now, part.now)) }
     {
-        let (all, comma, height, behind) = self.elements(symbols, limit)?;
-        let Some(end) = closed(Bracket::Round, behind) else {
-            return Err(ExprFault::Refused);
-        };
-        Ok((rounded(self.alloc, all, comma)?, height, end))
+        Ok((comparator(symbol), self.inner(Level::Sum, part)?))
     }
 
-    /// The elements of a list display, up to the bracket that closes it.
-    pub fn listed<'a>(
-        &self,
-        symbols: &'a [Symbol],
-        limit: usize,
-    ) -> Result<(Items<Shape>, usize, &'a [Symbol]), ExprFault>
-        requires nests { Nests limit (F.pre self.now.inner) (F.post self.now.inner) }
-        requires some { 0 < limit }
-        ensures { Holds Square (λ d v. comma_list (shape d Conditional) v) (limit - 1) symbols.now result }
+    /// The comparisons, each with the operand after it.
+    pub fn comparands(&self, symbols: &[Symbol]) -> Result<Items<(CmpOp, Shape)>, ExprFault>
+        requires { Parts self.now.limit (F.pre self.now.part) (F.post self.now.part) }
+        ensures { Gives result (each (comparand (shape self.now.limit)) (pieces_from Separator.Comparison symbols.now)) }
     {
-        let (all, _comma, height, behind) = self.elements(symbols, limit)?;
-        let Some(end) = closed(Bracket::Square, behind) else {
-            return Err(ExprFault::Refused);
-        };
-        Ok((all, height, end))
-    }
-
-    /// The upper bound of a slice, if it has one, up to the bracket that closes it.
-    fn bound<'a>(
-        &self,
-        symbols: &'a [Symbol],
-        limit: usize,
-    ) -> Result<(Option<Boxed<Shape>>, usize, &'a [Symbol]), ExprFault>
-        requires nests { Nests limit (F.pre self.now.inner) (F.post self.now.inner) }
-        requires some { 0 < limit }
-        ensures { Holds Square (λ d. bound (shape d)) (limit - 1) symbols.now result }
-    {
-        if let Some(end) = closed(Bracket::Square, symbols) {
-            return Ok((None, 0, end));
-        }
-        let (x, height, behind) = self.inside(symbols, limit)?;
-        let Some(end) = closed(Bracket::Square, behind) else {
-            return Err(ExprFault::Refused);
-        };
-        Ok((Some(x), height, end))
-    }
-
-    /// An index that is a tuple without brackets, whose first part was read.
-    fn tuple_index<'a>(
-        &self,
-        object: Boxed<Shape>,
-        first: Boxed<Shape>,
-        height: usize,
-        symbols: &'a [Symbol],
-        limit: usize,
-    ) -> Result<(Boxed<Shape>, usize, &'a [Symbol]), ExprFault>
-        requires nests { Nests limit (F.pre self.now.inner) (F.post self.now.inner) }
-        requires some { 0 < limit }
-        ensures { (ys : List SymbolValue) → Found Conditional (limit - 1) ys first height symbols.now → (after : List SymbolValue) → symbols.now ≡ symbol.Comma ∷ after → Subscripts (limit - 1) object ys result }
-    {
-        let (all, _comma, most, behind) = self.others(first, height, symbols, limit)?;
-        let Some(end) = closed(Bracket::Square, behind) else {
-            return Err(ExprFault::Refused);
-        };
-        if most >= limit - 1 {
-            return Err(ExprFault::Refused);
-        }
-        let at = tuple(self.alloc, all)?;
-        Ok((index(self.alloc, object, at)?, most + 1, end))
-    }
-
-    /// An index or a slice of an object, up to the bracket that closes it.
-    pub fn subscript<'a>(
-        &self,
-        object: Boxed<Shape>,
-        symbols: &'a [Symbol],
-        limit: usize,
-    ) -> Result<(Boxed<Shape>, usize, &'a [Symbol]), ExprFault>
-        requires nests { Nests limit (F.pre self.now.inner) (F.post self.now.inner) }
-        requires some { 0 < limit }
-        ensures { Subscripts (limit - 1) object symbols.now result }
-    {
-        if let Some(after) = colon(symbols) {
-            let (high, height, end) = self.bound(after, limit)?;
-            return Ok((slice(self.alloc, object, None, high)?, height, end));
-        }
-        let (first, height, behind) = self.inside(symbols, limit)?;
-        if let Some(after) = colon(behind) {
-            let (high, other, end) = self.bound(after, limit)?;
-            return Ok((
-                slice(self.alloc, object, Some(first), high)?,
-                height.max(other),
-                end,
-            ));
-        }
-        if let Some(_) = comma(behind) {
-            return self.tuple_index(object, first, height, behind, limit);
-        }
-        let Some(end) = closed(Bracket::Square, behind) else {
-            return Err(ExprFault::Refused);
-        };
-        Ok((index(self.alloc, object, first)?, height, end))
+        let none = Items::new(self.alloc);
+        after_separators(none, Separator::Comparison, symbols, |symbol, part| {
+            self.comparand(symbol, part)
+        })
     }
 }

@@ -1,230 +1,170 @@
-// Operands: names, literals, brackets, and the groups behind them.
-ghost use Rattle.std.specs.Prelude.{◌≡◌, ◌<◌, ◌-◌, ◌∷◌};
-ghost use Rattle.py_language.specs.TreesPlaces.{Postfix};
-ghost use Rattle.py_language.specs.declared.shape.Bracket.TheVariants.{Round, Square, Brace};
+// Operands: names, literals and brackets, and the groups after them (Language Reference, 6.2 and 6.3).
+ghost use Rattle.std.specs.Prelude.{◌∷◌};
 ghost use Rattle.py_language.specs.declared.shape.Symbol.TheVariants as symbol;
-ghost use Rattle.py_shape.specs.Groups.{Operates, Extends};
-ghost use Rattle.py_shape.specs.Nests.{Nests};
-ghost use Rattle.py_shape.specs.Reads.{Reads};
+ghost use Rattle.py_language.specs.Trees.{shape, rounded, group, bound, subscript, postfix};
+ghost use Rattle.py_language.specs.Trees.{atom as atom_of};
+ghost use Rattle.py_shape.specs.Levels.{Parts};
+ghost use Rattle.py_shape.specs.Reads.{Gives, on, display};
 
 use crate::ExprFault;
-use crate::climb::Climber;
-use crate::cursor::{first, mark, opened};
-use crate::nodes::{attribute, call, dict, leaf, list, method, super_call};
-use py_language::{Bracket, Shape, Symbol};
+use crate::cut::{Separator, colon_cut, first, inside, last_cut};
+use crate::lists::has_comma;
+use crate::node::{copied, node};
+use crate::operators::{Level, Reader};
+use py_language::{Atom, Bracket, Shape, Symbol};
 use pyn_base::Name;
-use sqlite_items::Boxed;
+use sqlite_items::{Boxed, Items};
 use std::alloc::Global;
 
-impl<
-    F: Fn(Global, &[Symbol], usize) -> Result<(Boxed<Shape>, usize, &[Symbol]), ExprFault>,
-> Climber<F> {
-    /// Behind an opening round bracket.
-    fn round<'a>(
-        &self,
-        symbols: &'a [Symbol],
-        limit: usize,
-    ) -> Result<(Boxed<Shape>, usize, &'a [Symbol]), ExprFault>
-        requires nests { Nests limit (F.pre self.now.inner) (F.post self.now.inner) }
-        requires some { 0 < limit }
-        ensures { Operates limit (symbol.Open Round ∷ symbols.now) result }
+impl<F: Fn(Global, Level, &[Symbol], usize) -> Result<Boxed<Shape>, ExprFault>> Reader<F> {
+    /// An operand with groups after it.
+    #[tactic(auto, unfolding(py_language::specs::Trees::postfix))]
+    pub fn postfix(&self, symbols: &[Symbol]) -> Result<Boxed<Shape>, ExprFault>
+        requires { Parts self.now.limit (F.pre self.now.part) (F.post self.now.part) }
+        ensures { Gives result (postfix (shape self.now.limit) symbols.now) }
     {
-        let (x, height, end) = self.rounded(symbols, limit)?;
-        Ok((x, height + 1, end))
+        match last_cut(Separator::Group, symbols) {
+            None => self.atom(symbols),
+            Some((object, symbol, group)) => {
+                let object = self.part(Level::Postfix, object)?;
+                self.group(object, symbol, group)
+            }
+        }
     }
 
-    /// Behind an opening square bracket.
-    fn list<'a>(
+    /// What a group, by its first symbol and the others, makes of the object before it.
+    fn group(
         &self,
-        symbols: &'a [Symbol],
-        limit: usize,
-    ) -> Result<(Boxed<Shape>, usize, &'a [Symbol]), ExprFault>
-        requires nests { Nests limit (F.pre self.now.inner) (F.post self.now.inner) }
-        requires some { 0 < limit }
-        ensures { Operates limit (symbol.Open Square ∷ symbols.now) result }
+        object: Boxed<Shape>,
+        symbol: &Symbol,
+        symbols: &[Symbol],
+    ) -> Result<Boxed<Shape>, ExprFault>
+        requires { Parts self.now.limit (F.pre self.now.part) (F.post self.now.part) }
+        ensures { Gives result (on object (group (shape self.now.limit) symbol.now symbols.now)) }
     {
-        let (all, height, end) = self.listed(symbols, limit)?;
-        Ok((list(self.alloc, all)?, height + 1, end))
+        match symbol {
+            Symbol::Attribute(name) => self.attribute(object, name, symbols),
+            Symbol::Method(name) => {
+                let args = self.called(symbols)?;
+                let name = name.to_owned(self.alloc)?;
+                Ok(node(self.alloc, Shape::Method(object, name, args))?)
+            }
+            Symbol::Open(Bracket::Round) => {
+                let args = self.arguments(symbols)?;
+                Ok(node(self.alloc, Shape::Call(object, args))?)
+            }
+            Symbol::Open(Bracket::Square) => {
+                let content = inside(Bracket::Square, symbols)?;
+                self.subscript(object, content)
+            }
+            _ => Err(ExprFault::Refused),
+        }
     }
 
-    /// Behind an opening brace.
-    fn dict<'a>(
+    /// A name after a dot.
+    fn attribute(
         &self,
-        symbols: &'a [Symbol],
-        limit: usize,
-    ) -> Result<(Boxed<Shape>, usize, &'a [Symbol]), ExprFault>
-        requires nests { Nests limit (F.pre self.now.inner) (F.post self.now.inner) }
-        requires some { 0 < limit }
-        ensures { Operates limit (symbol.Open Brace ∷ symbols.now) result }
-    {
-        let (all, height, end) = self.entries(symbols, limit)?;
-        Ok((dict(self.alloc, all)?, height + 1, end))
-    }
-
-    /// Behind `super().name`.
-    fn super_call<'a>(
-        &self,
+        object: Boxed<Shape>,
         name: &Name,
-        symbols: &'a [Symbol],
-        limit: usize,
-    ) -> Result<(Boxed<Shape>, usize, &'a [Symbol]), ExprFault>
-        requires nests { Nests limit (F.pre self.now.inner) (F.post self.now.inner) }
-        requires some { 0 < limit }
-        ensures { Operates limit (symbol.Super name.now ∷ symbols.now) result }
+        symbols: &[Symbol],
+    ) -> Result<Boxed<Shape>, ExprFault>
+        ensures { Gives result (on object (group (shape self.now.limit) (symbol.Attribute name.now) symbols.now)) }
     {
-        let Some(after) = opened(symbols) else {
+        if let Some(_) = first(symbols) {
             return Err(ExprFault::Refused);
-        };
-        let (args, height, end) = self.arguments(after, limit)?;
-        Ok((super_call(self.alloc, name, args)?, height + 1, end))
+        }
+        let name = name.to_owned(self.alloc)?;
+        Ok(node(self.alloc, Shape::Attr(object, name))?)
     }
 
-    /// A name, a literal or what stands in brackets.
-    fn operand<'a>(
-        &self,
-        symbols: &'a [Symbol],
-        limit: usize,
-    ) -> Result<(Boxed<Shape>, usize, &'a [Symbol]), ExprFault>
-        requires nests { Nests limit (F.pre self.now.inner) (F.post self.now.inner) }
-        requires some { 0 < limit }
-        ensures { Operates limit symbols.now result }
+    /// The index of an object, or the bounds of a slice.
+    fn subscript(&self, object: Boxed<Shape>, symbols: &[Symbol]) -> Result<Boxed<Shape>, ExprFault>
+        requires { Parts self.now.limit (F.pre self.now.part) (F.post self.now.part) }
+        ensures { Gives result (on object (subscript (shape self.now.limit) symbols.now)) }
+    {
+        let Some((low, high)) = colon_cut(symbols) else {
+            let index = self.part(Level::Listed, symbols)?;
+            return Ok(node(self.alloc, Shape::Index(object, index))?);
+        };
+        let low = self.bound(low)?;
+        let high = self.bound(high)?;
+        Ok(node(self.alloc, Shape::Slice(object, low, high))?)
+    }
+
+    fn bound(&self, symbols: &[Symbol]) -> Result<Option<Boxed<Shape>>, ExprFault>
+        requires { Parts self.now.limit (F.pre self.now.part) (F.post self.now.part) }
+        ensures { Gives result (bound (shape self.now.limit) symbols.now) }
+    {
+        let Some(_) = first(symbols) else {
+            return Ok(None);
+        };
+        Ok(Some(self.part(Level::Conditional, symbols)?))
+    }
+
+    /// A name, a literal or what is in brackets.
+    fn atom(&self, symbols: &[Symbol]) -> Result<Boxed<Shape>, ExprFault>
+        requires { Parts self.now.limit (F.pre self.now.part) (F.post self.now.part) }
+        ensures { Gives result (atom_of (shape self.now.limit) symbols.now) }
     {
         let Some((symbol, rest)) = first(symbols) else {
             return Err(ExprFault::Refused);
         };
         match symbol {
-            Symbol::Atom(atom) => Ok((leaf(self.alloc, atom)?, 1, rest)),
-            Symbol::Super(name) => self.super_call(name, rest, limit),
-            Symbol::Open(bracket) => match bracket {
-                Bracket::Round => self.round(rest, limit),
-                Bracket::Square => self.list(rest, limit),
-                Bracket::Brace => self.dict(rest, limit),
-            },
+            Symbol::Atom(atom) => self.leaf(atom, rest),
+            Symbol::Super(name) => {
+                let args = self.called(rest)?;
+                let name = name.to_owned(self.alloc)?;
+                Ok(node(self.alloc, Shape::Super(name, args))?)
+            }
+            Symbol::Open(bracket) => {
+                let content = inside(*bracket, rest)?;
+                self.display(*bracket, content)
+            }
             _ => Err(ExprFault::Refused),
         }
     }
 
-    fn attribute<'a>(
-        &self,
-        object: Boxed<Shape>,
-        height: usize,
-        name: &Name,
-        symbols: &'a [Symbol],
-        limit: usize,
-    ) -> Result<(Boxed<Shape>, usize, &'a [Symbol]), ExprFault>
-        ensures { Extends limit object height (symbol.Attribute name.now) symbols.now result }
+    /// A name or a literal, which nothing may follow.
+    fn leaf(&self, atom: &Atom, symbols: &[Symbol]) -> Result<Boxed<Shape>, ExprFault>
+        ensures { Gives result (atom_of (shape self.now.limit) (symbol.Atom atom.now ∷ symbols.now)) }
     {
-        if height >= limit {
+        if let Some(_) = first(symbols) {
             return Err(ExprFault::Refused);
         }
-        Ok((attribute(self.alloc, object, name)?, height + 1, symbols))
+        let atom = copied(self.alloc, atom)?;
+        Ok(node(self.alloc, Shape::Atom(atom))?)
     }
 
-    fn method<'a>(
-        &self,
-        object: Boxed<Shape>,
-        height: usize,
-        name: &Name,
-        symbols: &'a [Symbol],
-        limit: usize,
-    ) -> Result<(Boxed<Shape>, usize, &'a [Symbol]), ExprFault>
-        requires nests { Nests limit (F.pre self.now.inner) (F.post self.now.inner) }
-        requires some { 0 < limit }
-        ensures { Extends limit object height (symbol.Method name.now) symbols.now result }
+    /// What brackets make of the symbols in them.
+    fn display(&self, bracket: Bracket, symbols: &[Symbol]) -> Result<Boxed<Shape>, ExprFault>
+        requires { Parts self.now.limit (F.pre self.now.part) (F.post self.now.part) }
+        ensures { Gives result (display (shape self.now.limit) bracket symbols.now) }
     {
-        let Some(after) = opened(symbols) else {
-            return Err(ExprFault::Refused);
+        match bracket {
+            Bracket::Round => self.parenthesized(symbols),
+            Bracket::Square => {
+                let all = self.expressions(symbols)?;
+                Ok(node(self.alloc, Shape::ListLit(all))?)
+            }
+            Bracket::Brace => {
+                let all = self.entries(symbols)?;
+                Ok(node(self.alloc, Shape::DictLit(all))?)
+            }
+        }
+    }
+
+    /// What is in round brackets, which are a tuple's own.
+    fn parenthesized(&self, symbols: &[Symbol]) -> Result<Boxed<Shape>, ExprFault>
+        requires { Parts self.now.limit (F.pre self.now.part) (F.post self.now.part) }
+        ensures { Gives result (rounded (shape self.now.limit) symbols.now) }
+    {
+        let Some(_) = first(symbols) else {
+            return Ok(node(self.alloc, Shape::TupleLit(Items::new(self.alloc)))?);
         };
-        let (args, high, end) = self.arguments(after, limit)?;
-        let most = height.max(high);
-        if most >= limit {
-            return Err(ExprFault::Refused);
+        if has_comma(symbols) {
+            let all = self.expressions(symbols)?;
+            return Ok(node(self.alloc, Shape::TupleLit(all))?);
         }
-        Ok((method(self.alloc, object, name, args)?, most + 1, end))
-    }
-
-    fn call<'a>(
-        &self,
-        object: Boxed<Shape>,
-        height: usize,
-        symbols: &'a [Symbol],
-        limit: usize,
-    ) -> Result<(Boxed<Shape>, usize, &'a [Symbol]), ExprFault>
-        requires nests { Nests limit (F.pre self.now.inner) (F.post self.now.inner) }
-        requires some { 0 < limit }
-        ensures { Extends limit object height (symbol.Open Round) symbols.now result }
-    {
-        let (args, high, end) = self.arguments(symbols, limit)?;
-        let most = height.max(high);
-        if most >= limit {
-            return Err(ExprFault::Refused);
-        }
-        Ok((call(self.alloc, object, args)?, most + 1, end))
-    }
-
-    fn subscripted<'a>(
-        &self,
-        object: Boxed<Shape>,
-        height: usize,
-        symbols: &'a [Symbol],
-        limit: usize,
-    ) -> Result<(Boxed<Shape>, usize, &'a [Symbol]), ExprFault>
-        requires nests { Nests limit (F.pre self.now.inner) (F.post self.now.inner) }
-        requires some { 0 < limit }
-        ensures { Extends limit object height (symbol.Open Square) symbols.now result }
-    {
-        let (made, high, end) = self.subscript(object, symbols, limit)?;
-        let most = height.max(high);
-        if most >= limit {
-            return Err(ExprFault::Refused);
-        }
-        Ok((made, most + 1, end))
-    }
-
-    /// An operand and the group behind it, which begins with the symbol.
-    fn grouped<'a>(
-        &self,
-        object: Boxed<Shape>,
-        height: usize,
-        symbol: &Symbol,
-        symbols: &'a [Symbol],
-        limit: usize,
-    ) -> Result<(Boxed<Shape>, usize, &'a [Symbol]), ExprFault>
-        requires nests { Nests limit (F.pre self.now.inner) (F.post self.now.inner) }
-        requires some { 0 < limit }
-        ensures { Extends limit object height symbol.now symbols.now result }
-    {
-        match symbol {
-            Symbol::Attribute(name) => self.attribute(object, height, name, symbols, limit),
-            Symbol::Method(name) => self.method(object, height, name, symbols, limit),
-            Symbol::Open(bracket) => match bracket {
-                Bracket::Round => self.call(object, height, symbols, limit),
-                Bracket::Square => self.subscripted(object, height, symbols, limit),
-                Bracket::Brace => Err(ExprFault::Refused),
-            },
-            _ => Err(ExprFault::Refused),
-        }
-    }
-
-    pub fn postfix<'a>(
-        &self,
-        symbols: &'a [Symbol],
-        limit: usize,
-    ) -> Result<(Boxed<Shape>, usize, &'a [Symbol]), ExprFault>
-        requires nests { Nests limit (F.pre self.now.inner) (F.post self.now.inner) }
-        requires some { 0 < limit }
-        ensures { Reads Postfix limit symbols.now result }
-    {
-        let (mut object, mut height, mut rest) = self.operand(symbols, limit)?;
-        while let Some((symbol, after)) = mark(10, rest) {
-            let (made, high, behind) = self.grouped(object, height, symbol, after, limit)?;
-            object = made;
-            height = high;
-            rest = behind;
-        }
-        if let Some(_) = mark(12, rest) {
-            return Err(ExprFault::Refused);
-        }
-        Ok((object, height, rest))
+        self.part(Level::Conditional, symbols)
     }
 }

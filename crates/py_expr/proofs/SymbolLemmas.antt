@@ -38,7 +38,7 @@ no_name [] s behind n zs h e = cc
 no_name (Str t ∷ strings) s behind n zs h e = cc
 no_name (_ ∷ strings) s behind n zs h e = absurd h
 
--- the symbols of what stands behind `rest` are made, and no name there stands behind a dot before it
+-- the symbols of what is after `rest` are made, and no name there is after a dot before it
 pub record Seen (tokens rest : List Token) (made : List Symbol) : Type 0 where
   pub behind : List Token
   pub joined : rest ++ behind ≡ tokens

@@ -7,8 +7,8 @@ use Rattle.py_syntax.specs.declared.operator.CmpOp.{CmpOp}
 use Rattle.py_language.specs.declared.shape.Shape.{Shape, Shape-F, out-Shape}
 use Rattle.py_language.specs.declared.shape.Shape.TheVariants as s
 use Rattle.py_language.specs.TreesNumbers.{Numbered, Given, numbered}
-use Rattle.py_expr.specs.declared.number.Row.{Row}
-use Rattle.py_expr.specs.declared.number.Row.TheVariants as row
+use Rattle.py_expr.specs.declared.number.Series.{Series}
+use Rattle.py_expr.specs.declared.number.Series.TheVariants as series
 
 abbrev pub pair_numbered : Shape × Shape → Numbered Expr × Numbered Expr
 pair_numbered p = (numbered p.0, numbered p.1)
@@ -19,25 +19,25 @@ comparison_numbered p = (p.0, numbered p.1)
 abbrev pub argument_numbered : Option (List ℕ) × Shape → Option (List ℕ) × Numbered Expr
 argument_numbered p = (p.0, numbered p.1)
 
--- the arguments with one more behind them
+-- the arguments with one more after them
 abbrev pub one_more : Given → Option (List ℕ) → Expr → Given
 one_more done None x = (done.0 ++ x ∷ [], done.1)
 one_more done (Some name) x = (done.0, done.1 ++ (name, x) ∷ [])
 
 -- a node whose parts are a list of expressions
-abbrev pub row_kind : Row → List Expr → ExprKind
-row_kind row.And all = e.And all
-row_kind row.Or all = e.Or all
-row_kind row.List all = e.ListLit all
-row_kind row.Tuple all = e.TupleLit all
+abbrev pub series_kind : Series → List Expr → ExprKind
+series_kind series.And all = e.And all
+series_kind series.Or all = e.Or all
+series_kind series.List all = e.ListLit all
+series_kind series.Tuple all = e.TupleLit all
 
-abbrev pub row_shape : Row → List Shape → Shape
-row_shape row.And xs = s.And xs
-row_shape row.Or xs = s.Or xs
-row_shape row.List xs = s.ListLit xs
-row_shape row.Tuple xs = s.TupleLit xs
+abbrev pub series_shape : Series → List Shape → Shape
+series_shape series.And xs = s.And xs
+series_shape series.Or xs = s.Or xs
+series_shape series.List xs = s.ListLit xs
+series_shape series.Tuple xs = s.TupleLit xs
 
--- an operand with a group behind it, or a call by `super`
+-- an operand with a group after it, or a call by `super`
 abbrev pub primary_node : Shape-F Shape → Bool
 primary_node (Shape-F.Attr x n) = true
 primary_node (Shape-F.Index x i) = true

@@ -36,17 +36,17 @@ begins_called _ = false
 abbrev pub SuperOf : List Symbol → List Symbol → Type 0
 SuperOf old new = (a : Symbol) × (b : Symbol) × (n : List ℕ) × (xs : List Symbol) × (old ≡ a ∷ b ∷ Method n ∷ xs) × (new ≡ Super n ∷ xs)
 
--- a string is taken from the front, or none stands there
+-- a string is taken from the front, or none is there
 abbrev pub Strings : List Symbol → List Symbol → Option (List ℕ) → Type 0
 Strings old new (Some s) = old ≡ Atom (StrLit s) ∷ new
 Strings old new None = (old ≡ new) × ((s : List ℕ) (xs : List Symbol) → old ≡ Atom (StrLit s) ∷ xs → ⊥)
 
--- the tokens end with a dot, and these stand before it
+-- the tokens end with a dot, and these are before it
 abbrev pub Undots : List Token → Option (Bor (List Token)) → Type 0
 Undots xs (Some r) = xs ≡ r.now ++ token.Mark Dot ∷ []
 Undots xs None = (ys : List Token) → xs ≡ ys ++ token.Mark Dot ∷ [] → ⊥
 
--- the tokens end with a string, and these stand before it
+-- the tokens end with a string, and these are before it
 abbrev pub Unquotes : List Token → Option (Bor (List Token)) → Type 0
 Unquotes xs (Some r) = (s : List ℕ) × (xs ≡ r.now ++ token.Str s ∷ [])
 Unquotes xs None = Unit {0}
@@ -60,12 +60,12 @@ abbrev pub text_of : Token → List ℕ
 text_of (token.Str s) = s
 text_of _ = []
 
--- the texts of strings, one behind the other, and then a last one
+-- the texts of strings, one after another, and then a last one
 abbrev pub glued : List Token → List ℕ → List ℕ
 glued [] last = last
 glued (x ∷ xs) last = text_of x ++ glued xs last
 
--- the symbols after one more token, and what stands before it
+-- the symbols after one more token, and what is before it
 abbrev pub PushedAlone : List Token → Token → List Symbol → List Symbol → List Token → Type 0
 PushedAlone before x old new rest = (rest ≡ before) × (new ≡ join (symbol x) old) × ((n : List ℕ) → x ≡ token.Name n → (ys : List Token) → before ≡ ys ++ token.Mark Dot ∷ [] → ⊥)
 

@@ -4,10 +4,10 @@
 //! the one as an expression or as several with commas between them; each refuses exactly where that has none, and want of
 //! memory is the only other answer. `symbols_of` makes the symbols from the last token to the first: adjacent strings are
 //! one, `not in` and `is not` are one comparison each, `.name` is one group, and `super().name` before a bracket is one name.
-//! `py_shape` reads their shape, whose nodes are then numbered from 0 in the order of reading. This layer knows nothing of
+//! `py_expr_shape` reads their shape, whose nodes are then numbered from 0 in the order of reading. This layer knows nothing of
 //! text, of lines or of statements.
 //!
-//! It stands on `py_shape`, `py_language`, `py_syntax` and `pyn_base`.
+//! It stands on `py_expr_shape`, `py_language`, `py_syntax` and `pyn_base`.
 #![tactic(auto)]
 
 mod number;
@@ -15,6 +15,6 @@ mod read;
 mod stack;
 mod symbols;
 
-pub use py_shape::ExprFault;
+pub use py_expr_shape::ExprFault;
 pub use read::{read_expr, read_exprs};
 pub use symbols::symbols_of;

@@ -3,7 +3,7 @@ ghost use Rattle.std.specs.Prelude.{◌≡◌, IfOk, OnOk, map, suc, true};
 ghost use Rattle.std.specs.Option.{option_map};
 ghost use Rattle.py_language.specs.TreesNumbers.{numbered, in_order, entries, compared, arguments, args, atom};
 ghost use Rattle.py_language.specs.TreesNumbers.{bound as bound_of};
-ghost use Rattle.py_expr.specs.Numbers.{pair_numbered, comparison_numbered, argument_numbered, one_more, row_kind, row_shape, is_primary};
+ghost use Rattle.py_expr.specs.Numbers.{pair_numbered, comparison_numbered, argument_numbered, one_more, series_kind, series_shape, is_primary};
 
 use py_language::{Atom, Shape};
 use py_syntax::{Args, CmpOp, Expr, ExprKind};
@@ -11,8 +11,8 @@ use pyn_base::{Memory, Name, NodeId};
 use sqlite_items::{Boxed, Items};
 use std::alloc::Global;
 
-/// The number behind this one. There are fewer nodes than numbers, so there always is one.
-fn behind(number: u32) -> Result<u32, Memory>
+/// The number after this one. There are fewer nodes than numbers, so there always is one.
+fn next_number(number: u32) -> Result<u32, Memory>
     ensures { IfOk result (λ n. n ≡ suc number) }
 {
     match number.checked_add(1) {
@@ -45,31 +45,31 @@ fn leaf(alloc: Global, a: &Atom) -> Result<ExprKind, Memory>
 
 /// What a node is whose parts are a list of expressions.
 #[derive(Clone, Copy)]
-enum Row {
+enum Series {
     And,
     Or,
     List,
     Tuple,
 }
 
-fn row_kind(row: Row, all: Items<Expr>) -> ExprKind
-    ensures { result ≡ row_kind row all }
+fn series_kind(series: Series, all: Items<Expr>) -> ExprKind
+    ensures { result ≡ series_kind series all }
 {
-    match row {
-        Row::And => ExprKind::And(all),
-        Row::Or => ExprKind::Or(all),
-        Row::List => ExprKind::ListLit(all),
-        Row::Tuple => ExprKind::TupleLit(all),
+    match series {
+        Series::And => ExprKind::And(all),
+        Series::Or => ExprKind::Or(all),
+        Series::List => ExprKind::ListLit(all),
+        Series::Tuple => ExprKind::TupleLit(all),
     }
 }
 
-/// An expression with its numbers from one on, and the number behind them.
+/// An expression with its numbers from one on, and the number after them.
 #[cycle(numbers)]
 #[tactic(auto, using(crate::proofs::NumberLemmas::numbers))]
 pub fn numbered(alloc: Global, shape: &Shape, number: u32) -> Result<(Expr, u32), Memory>
     ensures { IfOk result (λ r. r ≡ numbered shape.now number) }
 {
-    let next = behind(number)?;
+    let next = next_number(number)?;
     match shape {
         Shape::Atom(a) => Ok((expr(number, leaf(alloc, a)?), next)),
         Shape::Unary(sign, x) => {
@@ -96,10 +96,10 @@ pub fn numbered(alloc: Global, shape: &Shape, number: u32) -> Result<(Expr, u32)
             let (other, end) = part_numbered(alloc, c.get(), second)?;
             Ok((expr(number, ExprKind::Cond(value, test, other)), end))
         }
-        Shape::And(items) => row_numbered(alloc, Row::And, items.as_slice(), number),
-        Shape::Or(items) => row_numbered(alloc, Row::Or, items.as_slice(), number),
-        Shape::ListLit(items) => row_numbered(alloc, Row::List, items.as_slice(), number),
-        Shape::TupleLit(items) => row_numbered(alloc, Row::Tuple, items.as_slice(), number),
+        Shape::And(items) => series_numbered(alloc, Series::And, items.as_slice(), number),
+        Shape::Or(items) => series_numbered(alloc, Series::Or, items.as_slice(), number),
+        Shape::ListLit(items) => series_numbered(alloc, Series::List, items.as_slice(), number),
+        Shape::TupleLit(items) => series_numbered(alloc, Series::Tuple, items.as_slice(), number),
         Shape::DictLit(pairs) => {
             let (all, end) = entries_numbered(alloc, pairs.as_slice(), next)?;
             Ok((expr(number, ExprKind::DictLit(all)), end))
@@ -108,14 +108,14 @@ pub fn numbered(alloc: Global, shape: &Shape, number: u32) -> Result<(Expr, u32)
     }
 }
 
-/// A primary: an operand with a group behind it, or a call by `super`.
+/// A primary: an operand with a group after it, or a call by `super`.
 #[cycle(numbers)]
 #[tactic(auto, using(crate::proofs::NumberLemmas::numbers))]
 fn primary_numbered(alloc: Global, shape: &Shape, number: u32) -> Result<(Expr, u32), Memory>
     requires { is_primary shape.now ≡ true }
     ensures { IfOk result (λ r. r ≡ numbered shape.now number) }
 {
-    let next = behind(number)?;
+    let next = next_number(number)?;
     match shape {
         Shape::Attr(x, name) => {
             let (object, end) = part_numbered(alloc, x.get(), next)?;
@@ -166,17 +166,17 @@ fn part_numbered(alloc: Global, shape: &Shape, number: u32) -> Result<(Boxed<Exp
 /// A node whose parts are a list of expressions.
 #[cycle(numbers)]
 #[tactic(auto, using(crate::proofs::NumberLemmas::numbers))]
-fn row_numbered(
+fn series_numbered(
     alloc: Global,
-    row: Row,
+    series: Series,
     shapes: &[Shape],
     number: u32,
 ) -> Result<(Expr, u32), Memory>
-    ensures { IfOk result (λ r. r ≡ numbered (row_shape row shapes.now) number) }
+    ensures { IfOk result (λ r. r ≡ numbered (series_shape series shapes.now) number) }
 {
-    let next = behind(number)?;
+    let next = next_number(number)?;
     let (all, end) = all_numbered(alloc, shapes, next)?;
-    Ok((expr(number, row_kind(row, all)), end))
+    Ok((expr(number, series_kind(series, all)), end))
 }
 
 #[cycle(numbers)]
@@ -233,7 +233,7 @@ fn compared_numbered(
     Ok((all, next))
 }
 
-// Puts one more argument behind these.
+/// Adds one more argument.
 fn push_argument(
     alloc: Global,
     plain: &mut Items<Expr>,

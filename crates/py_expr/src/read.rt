@@ -1,11 +1,11 @@
 // The tree of a list of tokens.
 ghost use Rattle.py_language.specs.Trees.{tree_of, trees_of};
-ghost use Rattle.py_shape.specs.Reads.{Gives};
+ghost use Rattle.py_expr_shape.specs.Reads.{Gives};
 
 use crate::number::numbered;
 use crate::symbols::symbols_of;
 use py_language::Token;
-use py_shape::{ExprFault, expression, expressions};
+use py_expr_shape::{ExprFault, expression, expressions};
 use py_syntax::Expr;
 use std::alloc::Global;
 

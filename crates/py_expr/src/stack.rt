@@ -55,7 +55,7 @@ impl Stack {
         Some(last)
     }
 
-    /// Whether `in` stands first.
+    /// Whether `in` is first.
     pub fn begins_in(&self) -> bool
         ensures { result ≡ begins_in self.now }
     {
@@ -68,7 +68,7 @@ impl Stack {
         }
     }
 
-    /// Whether `not` stands first.
+    /// Whether `not` is first.
     pub fn begins_not(&self) -> bool
         ensures { result ≡ begins_not self.now }
     {
@@ -94,7 +94,7 @@ impl Stack {
         }
     }
 
-    /// Whether `().name(` stands first.
+    /// Whether `().name(` is first.
     pub fn begins_called(&self) -> bool
         ensures { result ≡ begins_called self.now }
     {
@@ -114,7 +114,7 @@ impl Stack {
         }
     }
 
-    /// Takes a string, if one stands first.
+    /// Takes a string, if one is first.
     pub fn take_string(&mut self) -> Option<Text>
         ensures { Strings self.old self.new result }
     {

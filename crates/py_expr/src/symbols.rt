@@ -13,7 +13,7 @@ use pyn_base::{Memory, Name, Text};
 use sqlite_items::Items;
 use std::alloc::{AllocError, Global};
 
-/// What a keyword that stands alone is.
+/// What a keyword that is alone is.
 fn keyword(keyword: Keyword) -> Symbol
     ensures { result ≡ keyword_symbol keyword }
 {
@@ -56,7 +56,7 @@ fn keyword(keyword: Keyword) -> Symbol
     }
 }
 
-/// What a mark that stands alone is.
+/// What a mark that is alone is.
 fn mark(mark: Mark) -> Symbol
     ensures { result ≡ mark_symbol mark }
 {
@@ -151,14 +151,14 @@ fn push_attribute(alloc: Global, stack: &mut Stack, name: &Name) -> Result<(), M
     Ok(stack.push(Symbol::Attribute(name))?)
 }
 
-/// The last token, and what stands before it.
+/// The last token, and what is before it.
 fn last_of(tokens: &[Token]) -> Option<(&Token, &[Token])>
     ensures { MatchOption result (tokens.now ≡ []) (λ r. tokens.now ≡ r.1.now ++ r.0.now ∷ []) }
 {
     tokens.split_last()
 }
 
-/// What stands before a dot at the end.
+/// What is before a dot at the end.
 fn undotted(tokens: &[Token]) -> Option<&[Token]>
     ensures { Undots tokens.now result }
 {
@@ -169,7 +169,7 @@ fn undotted(tokens: &[Token]) -> Option<&[Token]>
     }
 }
 
-/// What stands before a string at the end.
+/// What is before a string at the end.
 fn unquoted(tokens: &[Token]) -> Option<&[Token]>
     ensures { Unquotes tokens.now result }
 {
@@ -180,7 +180,7 @@ fn unquoted(tokens: &[Token]) -> Option<&[Token]>
     }
 }
 
-/// What stands before the strings at the end, and those strings.
+/// What is before the strings at the end, and those strings.
 fn strings_apart(tokens: &[Token]) -> (&[Token], &[Token])
     ensures joined { tokens.now ≡ result.0.now ++ result.1.now }
     ensures strings { AreStrings result.1.now }
@@ -202,7 +202,7 @@ fn text_of(token: &Token) -> &str
     }
 }
 
-/// The texts of strings, one behind the other, and then a last one.
+/// The texts of strings, one after another, and then a last one.
 fn glued(alloc: Global, strings: &[Token], last: &Text) -> Result<Text, Memory>
     ensures { IfOk result (λ t. t ≡ glued strings.now last.now) }
 {
@@ -244,7 +244,7 @@ fn is_super(name: &Name) -> bool
     name.is("super")
 }
 
-/// Whether a name is `super`, and `().name(` stands behind it.
+/// Whether a name is `super`, and `().name(` comes after it.
 fn is_super_call(name: &Name, stack: &Stack) -> bool
     ensures { result ≡ (is_super name.now && begins_called stack.now) }
 {
@@ -270,7 +270,7 @@ fn push_super(stack: &mut Stack) -> Result<(), Memory>
     Ok(stack.push(Symbol::Super(name))?)
 }
 
-/// A name, which `().name(` behind it makes one with `super`.
+/// A name, which `().name(` after it makes one with `super`.
 fn push_name(alloc: Global, stack: &mut Stack, name: &Name) -> Result<(), Memory>
     ensures { OnOk result (stack.new ≡ named name.now stack.old) }
 {
@@ -281,7 +281,7 @@ fn push_name(alloc: Global, stack: &mut Stack, name: &Name) -> Result<(), Memory
     Ok(stack.push(Symbol::Atom(Atom::Name(name)))?)
 }
 
-/// A token, with what stands before it: the tokens that are left.
+/// A token, with what is before it: the tokens that are left.
 fn push_token<'a>(
     alloc: Global,
     stack: &mut Stack,

@@ -1,29 +1,29 @@
-use Rattle.std.proofs.Common.{◌∙◌, sym, ap, ap₂, map}
+use Rattle.std.proofs.Common.{◌∙◌, refl, sym, ap, ap₂, map}
 use Rattle.std.specs.Option.{option_map}
 use Rattle.py_syntax.specs.declared.expr.ExprKind.TheVariants as e
 use Rattle.py_language.specs.declared.shape.Shape.TheVariants as s
 use Rattle.py_language.specs.TreesNumbers.{numbered, in_order, entries, compared, bound}
-use Rattle.py_expr.specs.Numbers.{pair_numbered, comparison_numbered, row_kind}
-use Rattle.py_expr.proofs.NumberSteps.{shape_done, pair_done, comparison_done, argument_done, entries_done, comparisons_done, arguments_done, node_is, row_is, dict_is, both, then_is, compare_is, slice_is}
+use Rattle.py_expr.specs.Numbers.{pair_numbered, comparison_numbered, series_kind}
+use Rattle.py_expr.proofs.NumberSteps.{part_done, parts_done, pair_item, comparison_item, comparison_is, argument_done, arguments_done, node_is, series_is, dict_is, both, then_is, compare_is, slice_is}
 use Rattle.py_expr.proofs.number.+numbers.Goals as goal
 
 pub all_numbered-loop-shape-preserved : goal.all_numbered-loop-shape-preserved
 all_numbered-loop-shape-preserved h c =
-    shape_done _ _ _ _ _ _ _ _ _ c.loop-shape-test.true c.shape-item.is c.loop-shape.invariant c.in_ok-x.ensures c.in_ok-push.ensures.ok
+    part_done (λ xs. in_order (map numbered xs)) numbered (λ x xs n. refl) _ _ _ _ _ _ _ _ _ c.loop-shape-test.true c.shape-item.is c.loop-shape.invariant c.in_ok-x.ensures c.in_ok-push.ensures.ok
 
 pub entries_numbered-loop-pair-preserved : goal.entries_numbered-loop-pair-preserved
 entries_numbered-loop-pair-preserved h c =
-    pair_done _ _ _ _ _ _ _ _ _ _ _ c.loop-pair-test.true c.pair-item.is c.loop-pair.invariant c.in_ok-key.ensures c.in_ok-value.ensures c.in_ok-push.ensures.ok
+    part_done (λ xs. entries (map pair_numbered xs)) pair_item (λ x xs n. refl) _ _ _ _ _ _ _ _ _ c.loop-pair-test.true c.pair-item.is c.loop-pair.invariant (then_is _ _ _ _ _ _ _ c.in_ok-key.ensures c.in_ok-value.ensures) c.in_ok-push.ensures.ok
 
 pub entries_numbered-returns : goal.entries_numbered-returns
-entries_numbered-returns h c = entries_done _ _ _ _ _ c.loop-pair-test.false c.loop-pair.invariant
+entries_numbered-returns h c = parts_done (λ xs. entries (map pair_numbered xs)) pair_item (λ x xs n. refl) (λ n. refl) _ _ _ _ _ c.loop-pair-test.false c.loop-pair.invariant
 
 pub compared_numbered-loop-pair-preserved : goal.compared_numbered-loop-pair-preserved
 compared_numbered-loop-pair-preserved h c =
-    comparison_done _ _ _ _ _ _ _ _ _ c.loop-pair-test.true c.pair-item.is c.loop-pair.invariant c.in_ok-x.ensures c.in_ok-push.ensures.ok
+    part_done (λ xs. compared (map comparison_numbered xs)) comparison_item (λ x xs n. refl) _ _ _ _ _ _ _ _ _ c.loop-pair-test.true c.pair-item.is c.loop-pair.invariant (comparison_is _ _ _ _ c.in_ok-x.ensures) c.in_ok-push.ensures.ok
 
 pub compared_numbered-returns : goal.compared_numbered-returns
-compared_numbered-returns h c = comparisons_done _ _ _ _ _ c.loop-pair-test.false c.loop-pair.invariant
+compared_numbered-returns h c = parts_done (λ xs. compared (map comparison_numbered xs)) comparison_item (λ x xs n. refl) (λ n. refl) _ _ _ _ _ c.loop-pair-test.false c.loop-pair.invariant
 
 pub args_numbered-loop-argument-preserved : goal.args_numbered-loop-argument-preserved
 args_numbered-loop-argument-preserved h c =
@@ -32,10 +32,10 @@ args_numbered-loop-argument-preserved h c =
 pub args_numbered-returns : goal.args_numbered-returns
 args_numbered-returns h c = arguments_done _ _ _ _ _ c.loop-argument-test.false c.loop-argument.invariant
 
-pub row_numbered-returns : goal.row_numbered-returns
-row_numbered-returns h c =
-    node_is (row_kind c.args.row) (in_order (map numbered c.args.shapes.now)) c.args.number _ _ _ _ _ (row_is c.args.row c.args.shapes.now c.args.number)
-    c.in_ok-next.ensures c.in_ok-all.ensures (c.expr.ensures ∙ ap (λ k. record { node = record { 0 = c.args.number }; line = 1; kind = k }) c.row_kind.ensures)
+pub series_numbered-returns : goal.series_numbered-returns
+series_numbered-returns h c =
+    node_is (series_kind c.args.series) (in_order (map numbered c.args.shapes.now)) c.args.number _ _ _ _ _ (series_is c.args.series c.args.shapes.now c.args.number)
+    c.in_ok-next.ensures c.in_ok-all.ensures (c.expr.ensures ∙ ap (λ k. record { node = record { 0 = c.args.number }; line = 1; kind = k }) c.series_kind.ensures)
 
 pub numbered-returns-in_ok-all-in-DictLit : goal.numbered-returns-in_ok-all-in-DictLit
 numbered-returns-in_ok-all-in-DictLit h c =

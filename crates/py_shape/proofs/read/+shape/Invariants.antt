@@ -1,4 +1,0 @@
-use Rattle.py_shape.proofs.read.+shape.Given as goal
-
-abbrev pub decreases-shape : goal.decreases-shape
-decreases-shape l = l.limit

@@ -88,6 +88,9 @@ pair_item p = both (numbered p.0) (numbered p.1)
 abbrev pub comparison_item : CmpOp × Shape → Numbered (CmpOp × Expr)
 comparison_item p n = let r = numbered p.1 n in ((p.0, r.0), r.1)
 
+pub pair_is : (p : Shape × Shape) (n m end : ℕ) (key value : Expr) → (key, m) ≡ numbered p.0 n → (value, end) ≡ numbered p.1 m → ((key, value), end) ≡ pair_item p n
+pair_is p n m end key value ek ev = then_is (numbered p.0) (numbered p.1) n m end key value ek ev
+
 pub comparison_is : (p : CmpOp × Shape) (n n' : ℕ) (y : Expr) → (y, n') ≡ numbered p.1 n → ((p.0, y), n') ≡ comparison_item p n
 comparison_is p n n' y e = ap (λ r. ((p.0, r.0), r.1)) e
 

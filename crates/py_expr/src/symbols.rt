@@ -317,23 +317,3 @@ pub fn symbols_of(alloc: Global, tokens: &[Token]) -> Result<Items<Symbol>, Memo
     }
     Ok(stack.into_items(alloc)?)
 }
-
-#[cfg(test)]
-mod tests {
-    use super::*;
-    use std::test::Fail;
-
-    #[test]
-    fn with_ample_memory(rt: HostRuntime) -> Result<(), Fail> {
-        // not in, a string
-        let tokens = [
-            Token::Keyword(Keyword::Not),
-            Token::Keyword(Keyword::In),
-            Token::Str(Text::from_str(rt.alloc(), "a")?),
-            Token::Str(Text::from_str(rt.alloc(), "b")?),
-        ];
-        let all = symbols_of(rt.alloc(), &tokens)?;
-        assert!(rt; all.len() == 2);
-        Ok(())
-    }
-}

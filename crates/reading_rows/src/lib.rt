@@ -1,8 +1,9 @@
-//! Rows of texts, and what the readers make of them: their numbers are Python's own.
+//! Rows of texts, and what the readers make of them: what is expected of each is Python's own.
 //!
-//! It has tests alone, so that no reader is proved twice. It uses `py_lexer`, `py_language` and `pyn_base`, and nothing
-//! uses it.
+//! It has tests alone, so that no reader is proved twice, and nothing is above it.
 #![tactic(auto)]
 
+#[cfg(test)]
+mod expressions;
 #[cfg(test)]
 mod tokens;

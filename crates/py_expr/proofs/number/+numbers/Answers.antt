@@ -4,7 +4,7 @@ use Rattle.py_syntax.specs.declared.expr.ExprKind.TheVariants as e
 use Rattle.py_language.specs.declared.shape.Shape.TheVariants as s
 use Rattle.py_language.specs.TreesNumbers.{numbered, in_order, entries, compared, bound}
 use Rattle.py_expr.specs.Numbers.{pair_numbered, comparison_numbered, series_kind}
-use Rattle.py_expr.proofs.NumberSteps.{part_done, parts_done, pair_item, comparison_item, comparison_is, argument_done, arguments_done, node_is, series_is, dict_is, both, then_is, compare_is, slice_is}
+use Rattle.py_expr.proofs.NumberSteps.{part_done, parts_done, pair_item, comparison_item, comparison_is, pair_is, argument_done, arguments_done, node_is, series_is, dict_is, both, then_is, compare_is, slice_is}
 use Rattle.py_expr.proofs.number.+numbers.Goals as goal
 
 pub all_numbered-loop-shape-preserved : goal.all_numbered-loop-shape-preserved
@@ -13,7 +13,7 @@ all_numbered-loop-shape-preserved h c =
 
 pub entries_numbered-loop-pair-preserved : goal.entries_numbered-loop-pair-preserved
 entries_numbered-loop-pair-preserved h c =
-    part_done (λ xs. entries (map pair_numbered xs)) pair_item (λ x xs n. refl) _ _ _ _ _ _ _ _ _ c.loop-pair-test.true c.pair-item.is c.loop-pair.invariant (then_is _ _ _ _ _ _ _ c.in_ok-key.ensures c.in_ok-value.ensures) c.in_ok-push.ensures.ok
+    part_done (λ xs. entries (map pair_numbered xs)) pair_item (λ x xs n. refl) _ _ _ _ _ _ _ _ _ c.loop-pair-test.true c.pair-item.is c.loop-pair.invariant (pair_is c.pair-item.result _ _ _ _ _ c.in_ok-key.ensures c.in_ok-value.ensures) c.in_ok-push.ensures.ok
 
 pub entries_numbered-returns : goal.entries_numbered-returns
 entries_numbered-returns h c = parts_done (λ xs. entries (map pair_numbered xs)) pair_item (λ x xs n. refl) (λ n. refl) _ _ _ _ _ c.loop-pair-test.false c.loop-pair.invariant

@@ -1,3 +1,4 @@
 pub mod CutLemmas
 pub mod ListLemmas
 pub mod LoneLemmas
+pub mod PrimaryLemmas

@@ -22,6 +22,7 @@ separates separator.And = at Conjunction
 separates separator.Comparison = at Comparison
 separates separator.Sign = at Sum
 separates separator.Factor = at Product
+separates separator.Operator = below Postfix
 separates separator.Group = at Postfix
 
 abbrev pub IsLastCut : Separator → List Symbol → Option (Bor (List Symbol) × Bor Symbol × Bor (List Symbol)) → Type 0
@@ -74,3 +75,9 @@ EatsSign xs None = NoSign xs
 abbrev pub IsColonCut : List Symbol → Option (Bor (List Symbol) × Bor (List Symbol)) → Type 0
 IsColonCut xs (Some r) = (front colon xs ≡ r.0.now) × (back colon xs ≡ symbol.Colon ∷ r.1.now)
 IsColonCut xs None = back colon xs ≡ []
+
+-- no operator is outside brackets
+pub record IsPrimary (xs : List Symbol) : Type 0 where
+  pub no_operator : back (below Postfix) xs ≡ []
+  pub no_sign : NoSign xs
+  pub no_not : NotAhead symbol.Not xs

@@ -25,6 +25,8 @@ pub enum Separator {
     Sign,
     /// `*`, `//` or `%`.
     Factor,
+    /// An operator, or what is looser than each operator.
+    Operator,
     /// What begins a group after an operand: a dot or a bracket.
     Group,
 }
@@ -89,6 +91,7 @@ fn separates(separator: Separator, depth: usize, after: bool, symbol: &Symbol) -
         Separator::Comparison => depth == 0 && rank(after, symbol) == 6,
         Separator::Sign => depth == 0 && rank(after, symbol) == 7,
         Separator::Factor => depth == 0 && rank(after, symbol) == 8,
+        Separator::Operator => depth == 0 && rank(after, symbol) < 10,
         Separator::Group => depth == 0 && rank(after, symbol) == 10,
     }
 }

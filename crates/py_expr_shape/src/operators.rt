@@ -1,9 +1,9 @@
 // The rules of operators, from the loosest to the tightest (Language Reference, 6.5 to 6.16).
-ghost use Rattle.std.specs.Prelude.{◌≡◌, ◌∷◌, [], IfSome};
+ghost use Rattle.std.specs.Prelude.{◌≡◌, ◌∷◌, [], true, IfSome};
 ghost use Rattle.py_language.specs.declared.shape.Symbol.TheVariants as symbol;
 ghost use Rattle.py_language.specs.Trees.{shape, at_level, listed, conditional, otherwise, disjunction, conjunction, negation, comparison, sum, product, binary, signed};
 ghost use Rattle.py_language.specs.TreesPlaces.{Disjunction, front, back, below};
-ghost use Rattle.py_expr_shape.specs.Cuts.{Eats, EatsSign};
+ghost use Rattle.py_expr_shape.specs.Cuts.{Eats, EatsSign, IsPrimary};
 ghost use Rattle.py_expr_shape.specs.Levels.{Parts, level_of};
 ghost use Rattle.py_expr_shape.specs.Reads.{Gives};
 
@@ -71,6 +71,23 @@ fn lone_atom(symbols: &[Symbol]) -> Option<&Atom>
     }
 }
 
+/// Whether no operator is outside brackets.
+fn is_primary(symbols: &[Symbol]) -> bool
+    ensures { result ≡ true → IsPrimary symbols.now }
+{
+    let None = eat_not(symbols) else {
+        return false;
+    };
+    let None = eat_sign(symbols) else {
+        return false;
+    };
+    let (_primary, rest) = cut(Separator::Operator, symbols);
+    match first(rest) {
+        None => true,
+        Some(_) => false,
+    }
+}
+
 /// The rules that a part of an expression may be read by.
 #[derive(Clone, Copy)]
 pub enum Level {
@@ -103,13 +120,17 @@ impl<F: Fn(Global, Level, &[Symbol], usize) -> Result<Boxed<Shape>, ExprFault>> 
         (self.part)(self.alloc, level, symbols, self.limit)
     }
 
-    /// An expression of the level. A name or a literal that is alone is the same at each level.
+    /// An expression of the level. A name or a literal that is alone, and all that has no operator outside brackets, is the
+    /// same at each level, so that most parts are cut once.
     pub fn at_level(&self, level: Level, symbols: &[Symbol]) -> Result<Boxed<Shape>, ExprFault>
         requires { Parts self.now.limit (F.pre self.now.part) (F.post self.now.part) }
         ensures { Gives result (at_level (shape self.now.limit) (level_of level) symbols.now) }
     {
         if let Some(atom) = lone_atom(symbols) {
             return self.leaf(atom);
+        }
+        if is_primary(symbols) {
+            return self.postfix(symbols);
         }
         match level {
             Level::Listed => self.listed(symbols),

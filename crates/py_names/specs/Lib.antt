@@ -1,0 +1,4 @@
+pub mod Bound
+pub mod Examples
+pub mod Folds
+pub mod Laws

@@ -13,7 +13,7 @@ pub enum Refusal {
     /// The text is refused, for this construct on this line.
     #[error("line {line}: {construct}")]
     Refused { line: Line, construct: Construct },
-    /// Memory was wanted and not found.
+    /// Out of memory.
     #[error("out of memory")]
     Memory,
 }

@@ -1,7 +1,7 @@
 //! Small types that every other crate uses, and the desk through which the program meets the outside.
 //!
 //! - `Text`, `Name`, `Bytes` and `Ids` are lists to a contract: of characters, of characters, of bytes and of numbers.
-//!   What may want memory answers `Memory` in place of a value, and leaves what it works on as it was.
+//!   What may run out of memory answers `Memory` in place of a value, and leaves what it works on as it was.
 //! - `PyInt` is a whole number of the supported range, and its operators say exactly when a result lies outside of it.
 //!   `Fuel` is the number of steps that a run may still spend. `Construct` is why a text is refused.
 //! - `Desk` is the files, the bytes said, and the count of faults. One record of `specs/Desk` a call says all that the

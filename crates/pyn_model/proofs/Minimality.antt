@@ -51,7 +51,7 @@ tail-is : (x y : TestRun) (xs ys : List TestRun) → x ∷ xs ≡ y ∷ ys → x
 unfolding tail_of
 tail-is x y xs ys e = ap tail_of e
 
--- of the runs of these functions, those before and behind one don't take its entry
+-- of the runs of these functions, those before and after one don't take its entry
 without : (n i k : ℕ) (fs : List First) (before : List TestRun) (x : TestRun) (after : List TestRun) → ran_from i fs ≡ before ++ (x ∷ after) → k ≡ i + length before → taker (entry_at k) n (before ++ after) ≡ None
 without n i k [] [] x after e at = absurd (cc)
 without n i k [] (b ∷ before) x after e at = absurd (cc)

@@ -30,7 +30,7 @@ stopped line (Returned x) = t.Left line Form
 stopped line OutOfSteps = t.OutOfSteps line
 stopped line (Left construct) = t.Left line construct
 
--- a statement that ends normally passes, and the test goes on behind it
+-- a statement that ends normally passes, and the test goes on after it
 abbrev pub after_statement : ℕ → Result Value Stop → State → (State → TestRun) → TestRun
 after_statement line (Ok x) s rest = rest s
 after_statement line (Err why) s rest = record { outcome = stopped line why; trail = s.trail }

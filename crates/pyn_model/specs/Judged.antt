@@ -34,7 +34,7 @@ IsMinimal module' steps cases =
     (before : List TestCase) → (case : TestCase) → (after : List TestCase) → cases ≡ before ++ (case ∷ after)
     → goals_taken module' steps (before ++ after) < goals_taken module' steps cases
 
--- the same as a test, which looks at each of these behind those that were looked at
+-- the same as a test, which looks at each of these after those that were looked at
 abbrev pub none_can_go : (List TestCase → ℕ) → List TestCase → List TestCase → Bool
 none_can_go taken before [] = true
 none_can_go taken before (case ∷ after) =

@@ -109,7 +109,7 @@ Cause job old new Refused = (new.faults ≡ old.faults) × IfSome old.files (λ 
 Cause job old new Fault = (old.faults ≤ new.faults) × Rose old.faults new.faults
 Cause job old new OutOfMemory = new.faults ≡ old.faults
 
--- The words are refused, unless memory was wanted first, and the desk is as it was.
+-- The words are refused, unless it ran out of memory first, and the desk is as it was.
 pub record RefusesWords (old new : DeskState) (status : Status) : Type 0 where
   pub answer : (status ≡ BadWords) ⊎ (status ≡ OutOfMemory)
   pub same : new ≡ old

@@ -13,7 +13,7 @@ pub enum Status {
     Refused,
     /// A call of the desk failed.
     Fault,
-    /// Memory was wanted and not found.
+    /// Out of memory.
     OutOfMemory,
 }
 

@@ -2,9 +2,7 @@
 use Rattle.std.proofs.Common.{◌≡◌, ℕ, suc, ◌+◌, ◌<◌, ◌≤◌, Bool, true, false, ◌&&◌, ◌||◌, if◌then◌else◌, nat_le, List, ◌∷◌, take, drop, drop-cons, add-one, get_or, length, refl, sym, ◌∙◌, ap, arith}
 use Rattle.std.proofs.lemmas.List.{take-take, length-take}
 use Rattle.std.proofs.Math.Seq.{take-length, take-append_seam}
-use Rattle.pyn_base.specs.declared.class.BuiltClass.{BuiltClass}
 use Rattle.pyn_base.specs.declared.class.BuiltClass.TheVariants.{TypeError}
-use Rattle.pyn_base.specs.declared.construct.Construct.{Construct}
 use Rattle.pyn_base.specs.declared.construct.Construct.TheVariants as construct
 use Rattle.pyn_base.specs.declared.ids.ObjId.{ObjId}
 use Rattle.py_meaning.specs.declared.op.Op.{Op}

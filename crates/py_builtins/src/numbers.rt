@@ -1,6 +1,5 @@
 // `abs` and `int`.
 ghost use Rattle.std.specs.Prelude.{◌≡◌, ◌≤◌, ℕ, Some, pos, nat_abs};
-ghost use Rattle.py_meaning.specs.Steps.{UnlessMemory};
 ghost use Rattle.py_meaning.specs.declared.value.Value.{out-Value};
 ghost use Rattle.py_meaning.specs.Builtins.{abs_row, int_row, integer_of, integer_of_text, integer_or_type_error};
 

@@ -1,13 +1,13 @@
 // The methods of dicts (the manual, "Mapping Types"), one function a row.
-ghost use Rattle.std.specs.Prelude.{◌≡◌, ◌≤◌, ℕ, [], ◌∷◌, length, IfOk, OnOk, OnErr};
+ghost use Rattle.std.specs.Prelude.{◌≡◌, ◌≤◌, [], ◌∷◌, length};
 ghost use Rattle.py_meaning.specs.Caught.{where_missing};
 ghost use Rattle.py_meaning.specs.Steps.{changes, UnlessMemory, UnlessDone};
-ghost use Rattle.py_meaning.specs.Worlds.{World, pairs, object_at, with_object};
+ghost use Rattle.py_meaning.specs.Worlds.{pairs};
 ghost use Rattle.py_meaning.specs.DictMethods.{get_or, pop_key, pop_or, clear_dict, copy_dict, dict_method};
 
 use py_meaning::{DictMethod, ObjKind, Op, Value, View, done, made};
 use py_objects::Objects;
-use pyn_base::{BuiltClass, Construct, Fuel, Memory, ObjId};
+use pyn_base::{BuiltClass, Construct, Fuel, ObjId};
 
 /// The number of a dict's pairs.
 fn pair_count(dict: ObjId, objects: &Objects) -> u64

@@ -1,8 +1,8 @@
 // The methods of lists (the manual, "Mutable Sequence Types" and "Lists"), one function a row.
-ghost use Rattle.std.specs.Prelude.{◌≡◌, ◌≤◌, ℕ, [], ◌∷◌, OnOk, OnErr};
+ghost use Rattle.std.specs.Prelude.{◌≡◌, ◌≤◌, ℕ, [], ◌∷◌};
 ghost use Rattle.py_meaning.specs.Steps.{changes, UnlessMemory, UnlessDone};
-ghost use Rattle.py_meaning.specs.Worlds.{World, object_at, with_object};
-ghost use Rattle.py_meaning.specs.Operations.{inserted, list_extend, list_remove_free, list_reverse};
+ghost use Rattle.py_meaning.specs.Worlds.{World};
+ghost use Rattle.py_meaning.specs.Operations.{list_extend, list_remove_free, list_reverse};
 ghost use Rattle.py_meaning.specs.ListMethods.{giving_none, pop_at, insert_at, extend_by, removed, remove_equal, index_equal, equals_from, count_equal, clear_list, copy_list, list_method};
 
 use py_meaning::{ListMethod, Op, Value, done, made};

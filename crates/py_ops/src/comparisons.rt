@@ -1,6 +1,6 @@
 // Comparisons (Language Reference 6.10).
-ghost use Rattle.std.specs.Prelude.{◌≡◌, ◌≤◌, ℕ, not};
-ghost use Rattle.py_meaning.specs.Steps.{done, go_on, UnlessMemory};
+ghost use Rattle.std.specs.Prelude.{◌≡◌, ◌≤◌};
+ghost use Rattle.py_meaning.specs.Steps.{done, UnlessMemory};
 ghost use Rattle.py_meaning.specs.Operators.{compare};
 
 use crate::identity::identical;

@@ -1,5 +1,5 @@
 // Repetition of strings, tuples and lists (the manual, "Common Sequence Operations").
-ghost use Rattle.std.specs.Prelude.{◌≡◌, ◌≤◌, ◌*◌, ◌-◌, nat_le, if◌then◌else◌, length, IfOk};
+ghost use Rattle.std.specs.Prelude.{◌≡◌, ◌≤◌, ◌*◌, ◌-◌, nat_le, if◌then◌else◌, IfOk};
 ghost use Rattle.std.specs.List.{repeat};
 ghost use Rattle.py_meaning.specs.Steps.{changes, UnlessMemory, UnlessDone};
 ghost use Rattle.py_meaning.specs.Arithmetic.{in_machine, count_or_zero, repeated_text, repeated_tuple, repeat_ref};

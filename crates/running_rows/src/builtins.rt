@@ -14,7 +14,15 @@ use std::alloc::Global;
 use std::test::Fail;
 
 /// A call, its arguments, what it answers and what it costs.
-type Row<'a> = (Builtin, &'a [Plain<'a>], Answer<'a>, u32);
+type Row = (Builtin, &'static [Plain], Answer, u32);
+
+/// The greatest integer, and one below the least.
+const MOST: &str = "170141183460469231731687303715884105727";
+
+const PAST: &str = "-170141183460469231731687303715884105728";
+
+/// The greatest position of a machine.
+const MACHINE: i128 = 1 << 61;
 
 /// The first row that doesn't hold.
 fn first_wrong(alloc: Global, rows: &[Row]) -> Result<Option<usize>, Fail> {
@@ -73,8 +81,6 @@ fn texts_of_values(rt: HostRuntime) -> Result<(), Fail> {
 
 #[test]
 fn integers_of_texts(rt: HostRuntime) -> Result<(), Fail> {
-    let most = Text("170141183460469231731687303715884105727");
-    let past = Text("-170141183460469231731687303715884105728");
     let rows: [Row; 13] = [
         (Builtin::Int, &[], Is(Int(0)), 0),
         (Builtin::Int, &[Text(" -1_000\n")], Is(Int(-1000)), 8),
@@ -84,8 +90,8 @@ fn integers_of_texts(rt: HostRuntime) -> Result<(), Fail> {
         (Builtin::Int, &[Text("- 1")], Raises(ValueError), 3),
         (Builtin::Int, &[Text("\u{1c}1")], Raises(ValueError), 2),
         (Builtin::Int, &[Text("é")], Leaves(NonAsciiText), 1),
-        (Builtin::Int, &[most], Is(Int(i128::MAX)), 39),
-        (Builtin::Int, &[past], Leaves(IntegerRange), 40),
+        (Builtin::Int, &[Text(MOST)], Is(Int(i128::MAX)), 39),
+        (Builtin::Int, &[Text(PAST)], Leaves(IntegerRange), 40),
         (Builtin::Int, &[Truth(true)], Is(Int(1)), 0),
         (Builtin::Int, &[Nothing], Raises(TypeError), 0),
         (Builtin::Int, &[Text("7"), Int(10)], Leaves(Argument), 0),
@@ -113,7 +119,6 @@ fn the_first_of_the_best(rt: HostRuntime) -> Result<(), Fail> {
 
 #[test]
 fn ranges_are_within_the_machine(rt: HostRuntime) -> Result<(), Fail> {
-    let most = 1 << 61;
     let rows: [Row; 9] = [
         (Builtin::Range, &[Int(3)], Is(Range(0, 3, 1)), 0),
         (Builtin::Range, &[Int(2), Int(5)], Is(Range(2, 5, 1)), 0),
@@ -129,17 +134,17 @@ fn ranges_are_within_the_machine(rt: HostRuntime) -> Result<(), Fail> {
             Raises(ValueError),
             0,
         ),
-        (Builtin::Range, &[Int(most)], Is(Range(0, 1 << 61, 1)), 0),
-        (Builtin::Range, &[Int(most + 1)], Leaves(MachineSize), 0),
+        (Builtin::Range, &[Int(MACHINE)], Is(Range(0, 1 << 61, 1)), 0),
+        (Builtin::Range, &[Int(MACHINE + 1)], Leaves(MachineSize), 0),
         (
             Builtin::Range,
-            &[Int(-most - 1), Int(0)],
+            &[Int(-MACHINE - 1), Int(0)],
             Leaves(MachineSize),
             0,
         ),
         (
             Builtin::Range,
-            &[Int(most + 1), Text("a")],
+            &[Int(MACHINE + 1), Text("a")],
             Raises(TypeError),
             0,
         ),
@@ -217,7 +222,7 @@ fn dicts_are_copied(rt: HostRuntime) -> Result<(), Fail> {
 
 #[test]
 fn texts_of_exceptions(rt: HostRuntime) -> Result<(), Fail> {
-    let rows: [(BuiltClass, Option<&[Plain]>, Answer); 5] = [
+    let rows: [(BuiltClass, Option<&'static [Plain]>, Answer); 5] = [
         (BuiltClass::ValueError, Some(&[Text("x")]), Is(Text("x"))),
         (BuiltClass::ValueError, Some(&[]), Is(Text(""))),
         (

@@ -11,7 +11,7 @@ use std::alloc::Global;
 use std::test::Fail;
 
 /// A receiver, a name, arguments, the answer and its cost.
-type Row<'a> = (Plain<'a>, &'a str, &'a [Plain<'a>], Answer<'a>, u32);
+type Row = (Plain, &'static str, &'static [Plain], Answer, u32);
 
 fn call(
     receiver: &Value,
@@ -138,7 +138,7 @@ fn strings_with_two_arguments(rt: HostRuntime) -> Result<(), Fail> {
 }
 
 /// A method of `[5, 6]`, its arguments, its answer, its cost and what the list is after it.
-type ListRow<'a> = (&'a str, &'a [Plain<'a>], Answer<'a>, u32, &'a [i128]);
+type ListRow = (&'static str, &'static [Plain], Answer, u32, &'static [i128]);
 
 fn first_wrong_of_list(alloc: Global, rows: &[ListRow]) -> Result<Option<usize>, Fail> {
     for (at, (name, args, expected, cost, after)) in rows.iter().enumerate() {

@@ -18,7 +18,7 @@ use std::alloc::Global;
 use std::test::Fail;
 
 /// An operator, its operands, its answer and its cost.
-type Binary<'a> = (BinOp, Plain<'a>, Plain<'a>, Answer<'a>, u32);
+type Binary = (BinOp, Plain, Plain, Answer, u32);
 
 /// The first row that doesn't hold.
 fn first_wrong(alloc: Global, rows: &[Binary]) -> Result<Option<usize>, Fail> {

@@ -6,24 +6,24 @@ use std::test::Fail;
 
 /// A value as a row writes it.
 #[derive(Clone, Copy)]
-pub(crate) enum Plain<'a> {
+pub(crate) enum Plain {
     Nothing,
     Truth(bool),
     Int(i128),
-    Text(&'a str),
+    Text(&'static str),
     Range(i64, i64, i64),
     /// A tuple of integers.
-    Tuple(&'a [i128]),
+    Tuple(&'static [i128]),
     /// A list of integers.
-    List(&'a [i128]),
+    List(&'static [i128]),
     /// A list of the texts between the bars.
-    Texts(&'a str),
+    Texts(&'static str),
 }
 
 /// An answer as a row writes it.
 #[derive(Clone, Copy)]
-pub(crate) enum Answer<'a> {
-    Is(Plain<'a>),
+pub(crate) enum Answer {
+    Is(Plain),
     Raises(BuiltClass),
     Leaves(Construct),
     OutOfSteps,

@@ -13,3 +13,4 @@ pub mod MarkLemmas
 pub mod PieceLemmas
 pub mod JoinLemmas
 pub mod LoopLemmas
+pub mod KeywordLemmas

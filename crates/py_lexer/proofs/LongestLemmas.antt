@@ -70,16 +70,16 @@ module _ (p : ℕ → Bool) where
 -- ---- texts that are no mark
 
 -- no row of a table passes
-abbrev pub none_pass : (List ℕ → Bool) → List (List ℕ × Mark) → Bool
-none_pass p rows = list_all (λ (r : List ℕ × Mark). not (p r.0)) rows
+abbrev pub none_pass : {X : Type 0} → (List ℕ → Bool) → List (List ℕ × X) → Bool
+none_pass p rows = list_all (λ r. not (p r.0)) rows
 
-no_row_by : (p : List ℕ → Bool) (a b : Bool) (row : List ℕ × Mark) (rows : List (List ℕ × Mark)) (text : List ℕ) → bytes_eq text row.0 ≡ a → p row.0 ≡ b → (not b && none_pass p rows) ≡ true → p text ≡ true
+no_row_by : {X : Type 0} (p : List ℕ → Bool) (a b : Bool) (row : List ℕ × X) (rows : List (List ℕ × X)) (text : List ℕ) → bytes_eq text row.0 ≡ a → p row.0 ≡ b → (not b && none_pass p rows) ≡ true → p text ≡ true
     → (none_pass p rows ≡ true → listed rows text ≡ None) → cond a (Some row.1) (listed rows text) ≡ None
 no_row_by p a true row rows text ea eb h t ih = absurd (cc)
 no_row_by p false false row rows text ea eb h t ih = ih h
 no_row_by p true false row rows text ea eb h t ih = let is : text ≡ row.0 = (bytes_eq-Decides text row.0).0 ea in let wrong : true ≡ false = sym t ∙ (ap p is ∙ eb) in absurd (cc)
 
-no_row : (p : List ℕ → Bool) (rows : List (List ℕ × Mark)) (text : List ℕ) → none_pass p rows ≡ true → p text ≡ true → listed rows text ≡ None
+pub no_row : {X : Type 0} (p : List ℕ → Bool) (rows : List (List ℕ × X)) (text : List ℕ) → none_pass p rows ≡ true → p text ≡ true → listed rows text ≡ None
 no_row p [] text h t = refl
 no_row p (row ∷ rows) text h t = no_row_by p (bytes_eq text row.0) (p row.0) row rows text refl refl h t (λ e. no_row p rows text e t)
 

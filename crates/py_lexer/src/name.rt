@@ -19,10 +19,25 @@ pub fn listed<T: Copy>(rows: &[(&str, T)], text: &[u8]) -> Option<T>
     None
 }
 
-/// The keyword that a text is, if it is one of the 35 (Language Reference 2.3.1).
-#[tactic(auto, unfolding(py_language::specs::TokensNames::keywords_of_2, py_language::specs::TokensNames::keywords_of_3, py_language::specs::TokensNames::keywords_of_4, py_language::specs::TokensNames::keywords_of_5, py_language::specs::TokensNames::keywords_of_6, py_language::specs::TokensNames::keywords_of_7, py_language::specs::TokensNames::keywords_of_8))]
+/// The keyword that a text is, if it is one of the 35 (Language Reference 2.3.1): a table for each length.
 pub fn keyword_of(text: &[u8]) -> Option<Keyword>
     ensures { result ≡ spec.listed spec.keywords text.now }
+{
+    match text.len() {
+        2 => of_two(text),
+        3 => of_three(text),
+        4 => of_four(text),
+        5 => of_five(text),
+        6 => of_six(text),
+        7 => of_seven(text),
+        8 => of_eight(text),
+        _ => None,
+    }
+}
+
+#[tactic(auto, unfolding(py_language::specs::TokensNames::keywords_of_2))]
+fn of_two(text: &[u8]) -> Option<Keyword>
+    ensures { result ≡ spec.listed spec.keywords_of_2 text.now }
 {
     listed(
         &[
@@ -31,12 +46,34 @@ pub fn keyword_of(text: &[u8]) -> Option<Keyword>
             ("in", Keyword::In),
             ("is", Keyword::Is),
             ("or", Keyword::Or),
+        ],
+        text,
+    )
+}
+
+#[tactic(auto, unfolding(py_language::specs::TokensNames::keywords_of_3))]
+fn of_three(text: &[u8]) -> Option<Keyword>
+    ensures { result ≡ spec.listed spec.keywords_of_3 text.now }
+{
+    listed(
+        &[
             ("and", Keyword::And),
             ("def", Keyword::Def),
             ("del", Keyword::Del),
             ("for", Keyword::For),
             ("not", Keyword::Not),
             ("try", Keyword::Try),
+        ],
+        text,
+    )
+}
+
+#[tactic(auto, unfolding(py_language::specs::TokensNames::keywords_of_4))]
+fn of_four(text: &[u8]) -> Option<Keyword>
+    ensures { result ≡ spec.listed spec.keywords_of_4 text.now }
+{
+    listed(
+        &[
             ("None", Keyword::NoneLit),
             ("True", Keyword::TrueLit),
             ("elif", Keyword::Elif),
@@ -44,6 +81,17 @@ pub fn keyword_of(text: &[u8]) -> Option<Keyword>
             ("from", Keyword::From),
             ("pass", Keyword::Pass),
             ("with", Keyword::With),
+        ],
+        text,
+    )
+}
+
+#[tactic(auto, unfolding(py_language::specs::TokensNames::keywords_of_5))]
+fn of_five(text: &[u8]) -> Option<Keyword>
+    ensures { result ≡ spec.listed spec.keywords_of_5 text.now }
+{
+    listed(
+        &[
             ("False", Keyword::FalseLit),
             ("async", Keyword::Async),
             ("await", Keyword::Await),
@@ -52,13 +100,41 @@ pub fn keyword_of(text: &[u8]) -> Option<Keyword>
             ("raise", Keyword::Raise),
             ("while", Keyword::While),
             ("yield", Keyword::Yield),
+        ],
+        text,
+    )
+}
+
+#[tactic(auto, unfolding(py_language::specs::TokensNames::keywords_of_6))]
+fn of_six(text: &[u8]) -> Option<Keyword>
+    ensures { result ≡ spec.listed spec.keywords_of_6 text.now }
+{
+    listed(
+        &[
             ("assert", Keyword::Assert),
             ("except", Keyword::Except),
             ("global", Keyword::Global),
             ("import", Keyword::Import),
             ("lambda", Keyword::Lambda),
             ("return", Keyword::Return),
-            ("finally", Keyword::Finally),
+        ],
+        text,
+    )
+}
+
+#[tactic(auto, unfolding(py_language::specs::TokensNames::keywords_of_7))]
+fn of_seven(text: &[u8]) -> Option<Keyword>
+    ensures { result ≡ spec.listed spec.keywords_of_7 text.now }
+{
+    listed(&[("finally", Keyword::Finally)], text)
+}
+
+#[tactic(auto, unfolding(py_language::specs::TokensNames::keywords_of_8))]
+fn of_eight(text: &[u8]) -> Option<Keyword>
+    ensures { result ≡ spec.listed spec.keywords_of_8 text.now }
+{
+    listed(
+        &[
             ("continue", Keyword::Continue),
             ("nonlocal", Keyword::Nonlocal),
         ],

@@ -38,137 +38,118 @@ fn first_wrong(alloc: Global, rows: &[Row]) -> Result<Option<usize>, Fail> {
     Ok(None)
 }
 
-#[test]
-fn numbers_and_lengths(rt: HostRuntime) -> Result<(), Fail> {
-    let rows: [Row; 12] = [
-        (Len, &[Text("ab")], Is(Int(2)), 0),
-        (Len, &[Range(0, 5, 2)], Is(Int(3)), 0),
-        (Len, &[Int(7)], Raises(TypeError), 0),
-        (Abs, &[Int(-7)], Is(Int(7)), 0),
-        (Abs, &[Truth(true)], Is(Int(1)), 0),
-        (Abs, &[Text("a")], Raises(TypeError), 0),
-        (Bool, &[], Is(Truth(false)), 0),
-        (Bool, &[Text("")], Is(Truth(false)), 0),
-        (Bool, &[Range(0, 5, 1)], Is(Truth(true)), 0),
-        (Builtin::Print, &[Int(1), Int(2)], Is(Nothing), 0),
-        (Builtin::Isinstance, &[Int(1)], Leaves(Argument), 0),
-        (Builtin::Object, &[], Leaves(Argument), 0),
-    ];
-    assert_eq!(rt; first_wrong(rt.alloc(), &rows)?, None);
-    Ok(())
-}
+const NUMBERS: [Row; 12] = [
+    (Len, &[Text("ab")], Is(Int(2)), 0),
+    (Len, &[Range(0, 5, 2)], Is(Int(3)), 0),
+    (Len, &[Int(7)], Raises(TypeError), 0),
+    (Abs, &[Int(-7)], Is(Int(7)), 0),
+    (Abs, &[Truth(true)], Is(Int(1)), 0),
+    (Abs, &[Text("a")], Raises(TypeError), 0),
+    (Bool, &[], Is(Truth(false)), 0),
+    (Bool, &[Text("")], Is(Truth(false)), 0),
+    (Bool, &[Range(0, 5, 1)], Is(Truth(true)), 0),
+    (Builtin::Print, &[Int(1), Int(2)], Is(Nothing), 0),
+    (Builtin::Isinstance, &[Int(1)], Leaves(Argument), 0),
+    (Builtin::Object, &[], Leaves(Argument), 0),
+];
+
+const TEXTS: [Row; 8] = [
+    (Str, &[], Is(Text("")), 0),
+    (Str, &[Nothing], Is(Text("None")), 4),
+    (Str, &[Truth(true)], Is(Text("True")), 4),
+    (Str, &[Int(-12)], Is(Text("-12")), 3),
+    (Str, &[Text("ab")], Is(Text("ab")), 2),
+    (Str, &[Range(0, 5, 1)], Leaves(StrOf), 0),
+    (Str, &[Text("a"), Text("b")], Leaves(Argument), 0),
+    (
+        Str,
+        &[Nothing, Nothing, Nothing, Nothing],
+        Raises(TypeError),
+        0,
+    ),
+];
+
+const INTEGERS: [Row; 13] = [
+    (Builtin::Int, &[], Is(Int(0)), 0),
+    (Builtin::Int, &[Text(" -1_000\n")], Is(Int(-1000)), 8),
+    (Builtin::Int, &[Text("+007")], Is(Int(7)), 4),
+    (Builtin::Int, &[Text("1__0")], Raises(ValueError), 4),
+    (Builtin::Int, &[Text("1_")], Raises(ValueError), 2),
+    (Builtin::Int, &[Text("- 1")], Raises(ValueError), 3),
+    (Builtin::Int, &[Text("\u{1c}1")], Raises(ValueError), 2),
+    (Builtin::Int, &[Text("é")], Leaves(NonAsciiText), 1),
+    (Builtin::Int, &[Text(MOST)], Is(Int(i128::MAX)), 39),
+    (Builtin::Int, &[Text(PAST)], Leaves(IntegerRange), 40),
+    (Builtin::Int, &[Truth(true)], Is(Int(1)), 0),
+    (Builtin::Int, &[Nothing], Raises(TypeError), 0),
+    (Builtin::Int, &[Text("7"), Int(10)], Leaves(Argument), 0),
+];
+
+const BEST: [Row; 9] = [
+    (Min, &[Int(3), Int(1), Int(1)], Is(Int(1)), 3),
+    (Min, &[Truth(true), Int(1)], Is(Truth(true)), 2),
+    (Min, &[Range(5, 0, -2)], Is(Int(1)), 3),
+    (Min, &[List(&[])], Raises(ValueError), 0),
+    (Min, &[], Raises(TypeError), 0),
+    (Max, &[Int(1), Truth(true)], Is(Int(1)), 2),
+    (Max, &[Texts("a|ab")], Is(Text("ab")), 3),
+    (Max, &[Int(1), Nothing], Raises(TypeError), 2),
+    (Max, &[Int(1)], Raises(TypeError), 0),
+];
+
+const RANGES: [Row; 9] = [
+    (Builtin::Range, &[Int(3)], Is(Range(0, 3, 1)), 0),
+    (Builtin::Range, &[Int(2), Int(5)], Is(Range(2, 5, 1)), 0),
+    (
+        Builtin::Range,
+        &[Int(0), Int(5), Int(-2)],
+        Is(Range(0, 5, -2)),
+        0,
+    ),
+    (
+        Builtin::Range,
+        &[Int(0), Int(5), Int(0)],
+        Raises(ValueError),
+        0,
+    ),
+    (Builtin::Range, &[Int(MACHINE)], Is(Range(0, 1 << 61, 1)), 0),
+    (Builtin::Range, &[Int(MACHINE + 1)], Leaves(MachineSize), 0),
+    (
+        Builtin::Range,
+        &[Int(-MACHINE - 1), Int(0)],
+        Leaves(MachineSize),
+        0,
+    ),
+    (
+        Builtin::Range,
+        &[Int(MACHINE + 1), Text("a")],
+        Raises(TypeError),
+        0,
+    ),
+    (Builtin::Range, &[], Raises(TypeError), 0),
+];
+
+const SUMS: [Row; 10] = [
+    (Sum, &[Range(1, 3, 1)], Is(Int(3)), 2),
+    (Sum, &[List(&[1, 2]), Int(10)], Is(Int(13)), 2),
+    (Sum, &[Text("ab"), Text("")], Raises(TypeError), 2),
+    (Sum, &[Text("ab")], Raises(TypeError), 2),
+    (Sum, &[Int(1)], Raises(TypeError), 0),
+    (Builtin::List, &[], Is(List(&[])), 0),
+    (Builtin::List, &[Text("ab")], Is(Texts("a|b")), 2),
+    (Builtin::Tuple, &[], Is(Tuple(&[])), 0),
+    (Builtin::Tuple, &[Range(0, 3, 1)], Is(Tuple(&[0, 1, 2])), 3),
+    (Builtin::Dict, &[List(&[])], Leaves(Argument), 0),
+];
 
 #[test]
-fn texts_of_values(rt: HostRuntime) -> Result<(), Fail> {
-    let rows: [Row; 8] = [
-        (Str, &[], Is(Text("")), 0),
-        (Str, &[Nothing], Is(Text("None")), 4),
-        (Str, &[Truth(true)], Is(Text("True")), 4),
-        (Str, &[Int(-12)], Is(Text("-12")), 3),
-        (Str, &[Text("ab")], Is(Text("ab")), 2),
-        (Str, &[Range(0, 5, 1)], Leaves(StrOf), 0),
-        (Str, &[Text("a"), Text("b")], Leaves(Argument), 0),
-        (
-            Str,
-            &[Nothing, Nothing, Nothing, Nothing],
-            Raises(TypeError),
-            0,
-        ),
-    ];
-    assert_eq!(rt; first_wrong(rt.alloc(), &rows)?, None);
-    Ok(())
-}
-
-#[test]
-fn integers_of_texts(rt: HostRuntime) -> Result<(), Fail> {
-    let rows: [Row; 13] = [
-        (Builtin::Int, &[], Is(Int(0)), 0),
-        (Builtin::Int, &[Text(" -1_000\n")], Is(Int(-1000)), 8),
-        (Builtin::Int, &[Text("+007")], Is(Int(7)), 4),
-        (Builtin::Int, &[Text("1__0")], Raises(ValueError), 4),
-        (Builtin::Int, &[Text("1_")], Raises(ValueError), 2),
-        (Builtin::Int, &[Text("- 1")], Raises(ValueError), 3),
-        (Builtin::Int, &[Text("\u{1c}1")], Raises(ValueError), 2),
-        (Builtin::Int, &[Text("é")], Leaves(NonAsciiText), 1),
-        (Builtin::Int, &[Text(MOST)], Is(Int(i128::MAX)), 39),
-        (Builtin::Int, &[Text(PAST)], Leaves(IntegerRange), 40),
-        (Builtin::Int, &[Truth(true)], Is(Int(1)), 0),
-        (Builtin::Int, &[Nothing], Raises(TypeError), 0),
-        (Builtin::Int, &[Text("7"), Int(10)], Leaves(Argument), 0),
-    ];
-    assert_eq!(rt; first_wrong(rt.alloc(), &rows)?, None);
-    Ok(())
-}
-
-#[test]
-fn the_first_of_the_best(rt: HostRuntime) -> Result<(), Fail> {
-    let rows: [Row; 9] = [
-        (Min, &[Int(3), Int(1), Int(1)], Is(Int(1)), 3),
-        (Min, &[Truth(true), Int(1)], Is(Truth(true)), 2),
-        (Min, &[Range(5, 0, -2)], Is(Int(1)), 3),
-        (Min, &[List(&[])], Raises(ValueError), 0),
-        (Min, &[], Raises(TypeError), 0),
-        (Max, &[Int(1), Truth(true)], Is(Int(1)), 2),
-        (Max, &[Texts("a|ab")], Is(Text("ab")), 3),
-        (Max, &[Int(1), Nothing], Raises(TypeError), 2),
-        (Max, &[Int(1)], Raises(TypeError), 0),
-    ];
-    assert_eq!(rt; first_wrong(rt.alloc(), &rows)?, None);
-    Ok(())
-}
-
-#[test]
-fn ranges_are_within_the_machine(rt: HostRuntime) -> Result<(), Fail> {
-    let rows: [Row; 9] = [
-        (Builtin::Range, &[Int(3)], Is(Range(0, 3, 1)), 0),
-        (Builtin::Range, &[Int(2), Int(5)], Is(Range(2, 5, 1)), 0),
-        (
-            Builtin::Range,
-            &[Int(0), Int(5), Int(-2)],
-            Is(Range(0, 5, -2)),
-            0,
-        ),
-        (
-            Builtin::Range,
-            &[Int(0), Int(5), Int(0)],
-            Raises(ValueError),
-            0,
-        ),
-        (Builtin::Range, &[Int(MACHINE)], Is(Range(0, 1 << 61, 1)), 0),
-        (Builtin::Range, &[Int(MACHINE + 1)], Leaves(MachineSize), 0),
-        (
-            Builtin::Range,
-            &[Int(-MACHINE - 1), Int(0)],
-            Leaves(MachineSize),
-            0,
-        ),
-        (
-            Builtin::Range,
-            &[Int(MACHINE + 1), Text("a")],
-            Raises(TypeError),
-            0,
-        ),
-        (Builtin::Range, &[], Raises(TypeError), 0),
-    ];
-    assert_eq!(rt; first_wrong(rt.alloc(), &rows)?, None);
-    Ok(())
-}
-
-#[test]
-fn sums_lists_and_tuples(rt: HostRuntime) -> Result<(), Fail> {
-    let rows: [Row; 10] = [
-        (Sum, &[Range(1, 3, 1)], Is(Int(3)), 2),
-        (Sum, &[List(&[1, 2]), Int(10)], Is(Int(13)), 2),
-        (Sum, &[Text("ab"), Text("")], Raises(TypeError), 2),
-        (Sum, &[Text("ab")], Raises(TypeError), 2),
-        (Sum, &[Int(1)], Raises(TypeError), 0),
-        (Builtin::List, &[], Is(List(&[])), 0),
-        (Builtin::List, &[Text("ab")], Is(Texts("a|b")), 2),
-        (Builtin::Tuple, &[], Is(Tuple(&[])), 0),
-        (Builtin::Tuple, &[Range(0, 3, 1)], Is(Tuple(&[0, 1, 2])), 3),
-        (Builtin::Dict, &[List(&[])], Leaves(Argument), 0),
-    ];
-    assert_eq!(rt; first_wrong(rt.alloc(), &rows)?, None);
+fn each_call_has_its_row(rt: HostRuntime) -> Result<(), Fail> {
+    assert_eq!(rt; first_wrong(rt.alloc(), &NUMBERS)?, None);
+    assert_eq!(rt; first_wrong(rt.alloc(), &TEXTS)?, None);
+    assert_eq!(rt; first_wrong(rt.alloc(), &INTEGERS)?, None);
+    assert_eq!(rt; first_wrong(rt.alloc(), &BEST)?, None);
+    assert_eq!(rt; first_wrong(rt.alloc(), &RANGES)?, None);
+    assert_eq!(rt; first_wrong(rt.alloc(), &SUMS)?, None);
     Ok(())
 }
 

@@ -39,101 +39,104 @@ fn first_wrong(alloc: Global, rows: &[Row]) -> Result<Option<usize>, Fail> {
     Ok(None)
 }
 
-#[test]
-fn strings_without_arguments(rt: HostRuntime) -> Result<(), Fail> {
-    let rows: [Row; 10] = [
-        (Text("aB1"), "upper", &[], Is(Text("AB1")), 3),
-        (Text("aB1"), "lower", &[], Is(Text("ab1")), 3),
-        (Text("é"), "upper", &[], Leaves(NonAsciiText), 1),
-        (Text("12"), "isdigit", &[], Is(Truth(true)), 2),
-        (Text(""), "isdigit", &[], Is(Truth(false)), 0),
-        (Text(" a b\t"), "strip", &[], Is(Text("a b")), 5),
-        (Text(" a b\u{1f} c\n"), "split", &[], Is(Texts("a|b|c")), 8),
-        (Text("ab"), "find", &[], Raises(TypeError), 0),
-        (Text("ab"), "title", &[], Leaves(Method), 0),
-        (Text("ab"), "append", &[], Raises(AttributeError), 0),
-    ];
-    assert_eq!(rt; first_wrong(rt.alloc(), &rows)?, None);
-    Ok(())
-}
+const BARE: [Row; 10] = [
+    (Text("aB1"), "upper", &[], Is(Text("AB1")), 3),
+    (Text("aB1"), "lower", &[], Is(Text("ab1")), 3),
+    (Text("é"), "upper", &[], Leaves(NonAsciiText), 1),
+    (Text("12"), "isdigit", &[], Is(Truth(true)), 2),
+    (Text(""), "isdigit", &[], Is(Truth(false)), 0),
+    (Text(" a b\t"), "strip", &[], Is(Text("a b")), 5),
+    (Text(" a b\u{1f} c\n"), "split", &[], Is(Texts("a|b|c")), 8),
+    (Text("ab"), "find", &[], Raises(TypeError), 0),
+    (Text("ab"), "title", &[], Leaves(Method), 0),
+    (Text("ab"), "append", &[], Raises(AttributeError), 0),
+];
+
+const OF_ONE: [Row; 17] = [
+    (Text("1<>2<>"), "split", &[Text("<>")], Is(Texts("1|2|")), 6),
+    (Text("aaaaa"), "split", &[Text("aa")], Is(Texts("||a")), 5),
+    (Text(""), "split", &[Text(",")], Is(Texts("")), 0),
+    (Text("ab"), "split", &[Text("")], Raises(ValueError), 2),
+    (Text("a "), "split", &[Nothing], Is(Texts("a")), 2),
+    (Text("xaxx"), "strip", &[Text("yx")], Is(Text("a")), 4),
+    (Text(""), "strip", &[Text("x")], Is(Text("")), 0),
+    (Text("a "), "strip", &[Nothing], Is(Text("a")), 2),
+    (Text("a "), "strip", &[Int(1)], Raises(TypeError), 2),
+    (
+        Text(", "),
+        "join",
+        &[Texts("a|b|c")],
+        Is(Text("a, b, c")),
+        10,
+    ),
+    (Text(","), "join", &[List(&[1])], Raises(TypeError), 1),
+    (Text("ab"), "startswith", &[Text("a")], Is(Truth(true)), 1),
+    (Text("ab"), "startswith", &[Tuple(&[])], Leaves(Argument), 0),
+    (Text("ab"), "endswith", &[Text("a")], Is(Truth(false)), 1),
+    (
+        Text("abacabacabadabacabad"),
+        "find",
+        &[Text("abacabad")],
+        Is(Int(4)),
+        28,
+    ),
+    (Text("ababab"), "find", &[Text("abb")], Is(Int(-1)), 9),
+    (Text("abc"), "upper", &[Text("d")], Raises(TypeError), 0),
+];
+
+const OF_TWO: [Row; 5] = [
+    (
+        Text("ab"),
+        "replace",
+        &[Text(""), Text("-")],
+        Is(Text("-a-b-")),
+        7,
+    ),
+    (
+        Text("aaa"),
+        "replace",
+        &[Text("a"), Text("bb")],
+        Is(Text("bbbbbb")),
+        9,
+    ),
+    (
+        Text("aaa"),
+        "replace",
+        &[Text("aa"), Text("")],
+        Is(Text("a")),
+        4,
+    ),
+    (
+        Text("ab"),
+        "find",
+        &[Text("a"), Int(1)],
+        Leaves(Argument),
+        0,
+    ),
+    (
+        Text("ab"),
+        "join",
+        &[Text("a"), Text("b")],
+        Raises(TypeError),
+        0,
+    ),
+];
+
+const OTHERS: [Row; 6] = [
+    (Int(1), "bit_length", &[], Leaves(Method), 0),
+    (Int(1), "upper", &[], Raises(AttributeError), 0),
+    (Truth(true), "real", &[], Leaves(Method), 0),
+    (Tuple(&[]), "count", &[], Leaves(Method), 0),
+    (Range(0, 1, 1), "nothing", &[], Leaves(Method), 0),
+    (Nothing, "append", &[], Raises(AttributeError), 0),
+];
 
 #[test]
-fn strings_with_one_argument(rt: HostRuntime) -> Result<(), Fail> {
-    let rows: [Row; 17] = [
-        (Text("1<>2<>"), "split", &[Text("<>")], Is(Texts("1|2|")), 6),
-        (Text("aaaaa"), "split", &[Text("aa")], Is(Texts("||a")), 5),
-        (Text(""), "split", &[Text(",")], Is(Texts("")), 0),
-        (Text("ab"), "split", &[Text("")], Raises(ValueError), 2),
-        (Text("a "), "split", &[Nothing], Is(Texts("a")), 2),
-        (Text("xaxx"), "strip", &[Text("yx")], Is(Text("a")), 4),
-        (Text(""), "strip", &[Text("x")], Is(Text("")), 0),
-        (Text("a "), "strip", &[Nothing], Is(Text("a")), 2),
-        (Text("a "), "strip", &[Int(1)], Raises(TypeError), 2),
-        (
-            Text(", "),
-            "join",
-            &[Texts("a|b|c")],
-            Is(Text("a, b, c")),
-            10,
-        ),
-        (Text(","), "join", &[List(&[1])], Raises(TypeError), 1),
-        (Text("ab"), "startswith", &[Text("a")], Is(Truth(true)), 1),
-        (Text("ab"), "startswith", &[Tuple(&[])], Leaves(Argument), 0),
-        (Text("ab"), "endswith", &[Text("a")], Is(Truth(false)), 1),
-        (
-            Text("abacabacabadabacabad"),
-            "find",
-            &[Text("abacabad")],
-            Is(Int(4)),
-            28,
-        ),
-        (Text("ababab"), "find", &[Text("abb")], Is(Int(-1)), 9),
-        (Text("abc"), "upper", &[Text("d")], Raises(TypeError), 0),
-    ];
-    assert_eq!(rt; first_wrong(rt.alloc(), &rows)?, None);
-    Ok(())
-}
-
-#[test]
-fn strings_with_two_arguments(rt: HostRuntime) -> Result<(), Fail> {
-    let rows: [Row; 5] = [
-        (
-            Text("ab"),
-            "replace",
-            &[Text(""), Text("-")],
-            Is(Text("-a-b-")),
-            7,
-        ),
-        (
-            Text("aaa"),
-            "replace",
-            &[Text("a"), Text("bb")],
-            Is(Text("bbbbbb")),
-            9,
-        ),
-        (
-            Text("aaa"),
-            "replace",
-            &[Text("aa"), Text("")],
-            Is(Text("a")),
-            4,
-        ),
-        (
-            Text("ab"),
-            "find",
-            &[Text("a"), Int(1)],
-            Leaves(Argument),
-            0,
-        ),
-        (
-            Text("ab"),
-            "join",
-            &[Text("a"), Text("b")],
-            Raises(TypeError),
-            0,
-        ),
-    ];
-    assert_eq!(rt; first_wrong(rt.alloc(), &rows)?, None);
+fn each_method_has_its_row(rt: HostRuntime) -> Result<(), Fail> {
+    assert_eq!(rt; first_wrong(rt.alloc(), &BARE)?, None);
+    assert_eq!(rt; first_wrong(rt.alloc(), &OF_ONE)?, None);
+    assert_eq!(rt; first_wrong(rt.alloc(), &OF_TWO)?, None);
+    assert_eq!(rt; first_wrong(rt.alloc(), &OTHERS)?, None);
     Ok(())
 }
 
@@ -155,40 +158,37 @@ fn first_wrong_of_list(alloc: Global, rows: &[ListRow]) -> Result<Option<usize>,
     Ok(None)
 }
 
-#[test]
-fn lists_are_changed_in_place(rt: HostRuntime) -> Result<(), Fail> {
-    let rows: [ListRow; 10] = [
-        ("pop", &[], Is(Int(6)), 1, &[5]),
-        ("clear", &[], Is(Nothing), 2, &[]),
-        ("reverse", &[], Is(Nothing), 2, &[6, 5]),
-        ("append", &[Int(7)], Is(Nothing), 1, &[5, 6, 7]),
-        ("pop", &[Int(0)], Is(Int(5)), 2, &[6]),
-        ("remove", &[Int(6)], Is(Nothing), 4, &[5]),
-        ("extend", &[Range(7, 9, 1)], Is(Nothing), 2, &[5, 6, 7, 8]),
-        ("insert", &[Int(-9), Int(7)], Is(Nothing), 3, &[7, 5, 6]),
-        ("insert", &[Int(-1), Int(7)], Is(Nothing), 3, &[5, 7, 6]),
-        ("insert", &[Int(9), Int(7)], Is(Nothing), 3, &[5, 6, 7]),
-    ];
-    assert_eq!(rt; first_wrong_of_list(rt.alloc(), &rows)?, None);
-    Ok(())
-}
+const CHANGES: [ListRow; 10] = [
+    ("pop", &[], Is(Int(6)), 1, &[5]),
+    ("clear", &[], Is(Nothing), 2, &[]),
+    ("reverse", &[], Is(Nothing), 2, &[6, 5]),
+    ("append", &[Int(7)], Is(Nothing), 1, &[5, 6, 7]),
+    ("pop", &[Int(0)], Is(Int(5)), 2, &[6]),
+    ("remove", &[Int(6)], Is(Nothing), 4, &[5]),
+    ("extend", &[Range(7, 9, 1)], Is(Nothing), 2, &[5, 6, 7, 8]),
+    ("insert", &[Int(-9), Int(7)], Is(Nothing), 3, &[7, 5, 6]),
+    ("insert", &[Int(-1), Int(7)], Is(Nothing), 3, &[5, 7, 6]),
+    ("insert", &[Int(9), Int(7)], Is(Nothing), 3, &[5, 6, 7]),
+];
+
+const QUESTIONS: [ListRow; 11] = [
+    ("index", &[Int(5)], Is(Int(0)), 1, &[5, 6]),
+    ("index", &[Int(7)], Raises(ValueError), 2, &[5, 6]),
+    ("index", &[Int(5), Int(0)], Leaves(Argument), 0, &[5, 6]),
+    ("count", &[Int(6)], Is(Int(1)), 2, &[5, 6]),
+    ("copy", &[], Is(List(&[5, 6])), 2, &[5, 6]),
+    ("pop", &[Int(2)], Raises(IndexError), 2, &[5, 6]),
+    ("pop", &[Int(1 << 62)], Leaves(MachineSize), 2, &[5, 6]),
+    ("remove", &[Int(7)], Raises(ValueError), 4, &[5, 6]),
+    ("extend", &[Int(6)], Raises(TypeError), 0, &[5, 6]),
+    ("sort", &[], Leaves(Method), 0, &[5, 6]),
+    ("upper", &[], Raises(AttributeError), 0, &[5, 6]),
+];
 
 #[test]
-fn lists_stay_as_they_are(rt: HostRuntime) -> Result<(), Fail> {
-    let rows: [ListRow; 11] = [
-        ("index", &[Int(5)], Is(Int(0)), 1, &[5, 6]),
-        ("index", &[Int(7)], Raises(ValueError), 2, &[5, 6]),
-        ("index", &[Int(5), Int(0)], Leaves(Argument), 0, &[5, 6]),
-        ("count", &[Int(6)], Is(Int(1)), 2, &[5, 6]),
-        ("copy", &[], Is(List(&[5, 6])), 2, &[5, 6]),
-        ("pop", &[Int(2)], Raises(IndexError), 2, &[5, 6]),
-        ("pop", &[Int(1 << 62)], Leaves(MachineSize), 2, &[5, 6]),
-        ("remove", &[Int(7)], Raises(ValueError), 4, &[5, 6]),
-        ("extend", &[Int(6)], Raises(TypeError), 0, &[5, 6]),
-        ("sort", &[], Leaves(Method), 0, &[5, 6]),
-        ("upper", &[], Raises(AttributeError), 0, &[5, 6]),
-    ];
-    assert_eq!(rt; first_wrong_of_list(rt.alloc(), &rows)?, None);
+fn each_method_of_a_list_has_its_row(rt: HostRuntime) -> Result<(), Fail> {
+    assert_eq!(rt; first_wrong_of_list(rt.alloc(), &CHANGES)?, None);
+    assert_eq!(rt; first_wrong_of_list(rt.alloc(), &QUESTIONS)?, None);
     Ok(())
 }
 
@@ -248,19 +248,5 @@ fn a_default_is_put_for_the_key_alone(rt: HostRuntime) -> Result<(), Fail> {
         assert!(rt; fuel.left() as u64 + cost as u64 == before as u64);
         assert_eq!(rt; objects.size(dict), size);
     }
-    Ok(())
-}
-
-#[test]
-fn values_without_methods(rt: HostRuntime) -> Result<(), Fail> {
-    let rows: [Row; 6] = [
-        (Int(1), "bit_length", &[], Leaves(Method), 0),
-        (Int(1), "upper", &[], Raises(AttributeError), 0),
-        (Truth(true), "real", &[], Leaves(Method), 0),
-        (Tuple(&[]), "count", &[], Leaves(Method), 0),
-        (Range(0, 1, 1), "nothing", &[], Leaves(Method), 0),
-        (Nothing, "append", &[], Raises(AttributeError), 0),
-    ];
-    assert_eq!(rt; first_wrong(rt.alloc(), &rows)?, None);
     Ok(())
 }

@@ -17,6 +17,13 @@ use pyn_base::{BuiltClass, ClassId, Fuel};
 use std::alloc::Global;
 use std::test::Fail;
 
+const GREATEST: Plain = Int(i128::MAX);
+
+/// The greatest count of a machine, and the next number.
+const MOST: Plain = Int(1 << 61);
+
+const PAST: Plain = Int((1 << 61) + 1);
+
 /// An operator, its operands, its answer and its cost.
 type Binary = (BinOp, Plain, Plain, Answer, u32);
 
@@ -34,45 +41,39 @@ fn first_wrong(alloc: Global, rows: &[Binary]) -> Result<Option<usize>, Fail> {
     Ok(None)
 }
 
-#[test]
-fn integers_are_calculated(rt: HostRuntime) -> Result<(), Fail> {
-    let great = Int(i128::MAX);
-    let rows: [Binary; 13] = [
-        (Add, Int(2), Int(3), Is(Int(5)), 0),
-        (Sub, Int(2), Int(3), Is(Int(-1)), 0),
-        (Mul, Int(-2), Truth(true), Is(Int(-2)), 0),
-        (FloorDiv, Int(-7), Int(2), Is(Int(-4)), 0),
-        (FloorDiv, Int(7), Int(-2), Is(Int(-4)), 0),
-        (Mod, Int(-7), Int(2), Is(Int(1)), 0),
-        (Mod, Int(7), Int(-2), Is(Int(-1)), 0),
-        (Add, great, Int(1), Leaves(IntegerRange), 0),
-        (Mul, great, great, Leaves(IntegerRange), 0),
-        (Mod, Int(1), Int(0), Raises(ZeroDivisionError), 0),
-        (Sub, Nothing, Int(1), Raises(TypeError), 0),
-        (Mul, Int(1), Range(0, 3, 1), Leaves(View), 0),
-        (Mod, Text("%d"), Int(1), Leaves(StringFormat), 0),
-    ];
-    assert_eq!(rt; first_wrong(rt.alloc(), &rows)?, None);
-    Ok(())
-}
+const NUMBERS: [Binary; 13] = [
+    (Add, Int(2), Int(3), Is(Int(5)), 0),
+    (Sub, Int(2), Int(3), Is(Int(-1)), 0),
+    (Mul, Int(-2), Truth(true), Is(Int(-2)), 0),
+    (FloorDiv, Int(-7), Int(2), Is(Int(-4)), 0),
+    (FloorDiv, Int(7), Int(-2), Is(Int(-4)), 0),
+    (Mod, Int(-7), Int(2), Is(Int(1)), 0),
+    (Mod, Int(7), Int(-2), Is(Int(-1)), 0),
+    (Add, GREATEST, Int(1), Leaves(IntegerRange), 0),
+    (Mul, GREATEST, GREATEST, Leaves(IntegerRange), 0),
+    (Mod, Int(1), Int(0), Raises(ZeroDivisionError), 0),
+    (Sub, Nothing, Int(1), Raises(TypeError), 0),
+    (Mul, Int(1), Range(0, 3, 1), Leaves(View), 0),
+    (Mod, Text("%d"), Int(1), Leaves(StringFormat), 0),
+];
+
+const SEQUENCES: [Binary; 10] = [
+    (Add, Text("a"), Text("bc"), Is(Text("abc")), 3),
+    (Add, Tuple(&[1]), Tuple(&[2]), Is(Tuple(&[1, 2])), 2),
+    (Add, List(&[1]), List(&[2]), Is(List(&[1, 2])), 2),
+    (Mul, Text("ab"), Int(-1), Is(Text("")), 0),
+    (Mul, Int(2), Text("ab"), Is(Text("abab")), 4),
+    (Mul, Tuple(&[1, 2]), Int(2), Is(Tuple(&[1, 2, 1, 2])), 4),
+    (Mul, List(&[1]), Int(3), Is(List(&[1, 1, 1])), 3),
+    (Mul, Text("ab"), MOST, OutOfSteps, 0),
+    (Mul, Text("ab"), PAST, Leaves(MachineSize), 0),
+    (Mul, Text(""), MOST, Is(Text("")), 0),
+];
 
 #[test]
-fn sequences_are_joined_and_repeated(rt: HostRuntime) -> Result<(), Fail> {
-    let most = Int(1 << 61);
-    let past = Int((1 << 61) + 1);
-    let rows: [Binary; 10] = [
-        (Add, Text("a"), Text("bc"), Is(Text("abc")), 3),
-        (Add, Tuple(&[1]), Tuple(&[2]), Is(Tuple(&[1, 2])), 2),
-        (Add, List(&[1]), List(&[2]), Is(List(&[1, 2])), 2),
-        (Mul, Text("ab"), Int(-1), Is(Text("")), 0),
-        (Mul, Int(2), Text("ab"), Is(Text("abab")), 4),
-        (Mul, Tuple(&[1, 2]), Int(2), Is(Tuple(&[1, 2, 1, 2])), 4),
-        (Mul, List(&[1]), Int(3), Is(List(&[1, 1, 1])), 3),
-        (Mul, Text("ab"), most, OutOfSteps, 0),
-        (Mul, Text("ab"), past, Leaves(MachineSize), 0),
-        (Mul, Text(""), most, Is(Text("")), 0),
-    ];
-    assert_eq!(rt; first_wrong(rt.alloc(), &rows)?, None);
+fn each_operator_has_its_row(rt: HostRuntime) -> Result<(), Fail> {
+    assert_eq!(rt; first_wrong(rt.alloc(), &NUMBERS)?, None);
+    assert_eq!(rt; first_wrong(rt.alloc(), &SEQUENCES)?, None);
     Ok(())
 }
 

@@ -21,6 +21,8 @@ pub mod LikeCalls
 pub mod LikeStatements
 pub mod LikeValues
 pub mod LoopLaws
+pub mod Appends
+pub mod Asserting
 pub mod Yields
 pub mod ExamplesNames
 pub mod ExamplesAssignments

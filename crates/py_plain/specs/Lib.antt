@@ -18,6 +18,7 @@ pub mod Statements
 pub mod Import
 pub mod Tests
 pub mod Examples
+pub mod Assertions
 pub mod Laws
 pub mod ExamplesNames
 pub mod ExamplesAssignments
@@ -29,3 +30,4 @@ pub mod ExamplesClasses
 pub mod ExamplesExceptions
 pub mod ExamplesLoops
 pub mod ExamplesImport
+pub mod ExamplesAssertions

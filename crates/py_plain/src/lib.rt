@@ -11,6 +11,7 @@
 //! no table of objects: what a state's objects are is a parameter.
 #![tactic(auto)]
 
+mod assertions_examples;
 mod assignments_examples;
 mod builtins_examples;
 mod calls_examples;
@@ -26,6 +27,7 @@ mod operators_examples;
 mod run;
 mod state;
 
+pub use assertions_examples::assertions_by_example;
 pub use assignments_examples::assignments_by_example;
 pub use builtins_examples::builtins_by_example;
 pub use calls_examples::calls_by_example;

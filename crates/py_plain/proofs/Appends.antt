@@ -6,7 +6,6 @@ use Rattle.pyn_base.specs.declared.class.ClassId.{ClassId}
 use Rattle.pyn_base.specs.declared.ids.FuncId.{FuncId}
 use Rattle.pyn_base.specs.declared.ids.NodeId.{NodeId}
 use Rattle.py_meaning.specs.declared.measured.Measured.{Measured}
-use Rattle.py_meaning.specs.declared.object.Object.{Object}
 use Rattle.py_meaning.specs.declared.op.Op.{Op}
 use Rattle.py_meaning.specs.declared.op.Op.TheVariants as op
 use Rattle.py_meaning.specs.declared.value.Value.{Value}
@@ -14,12 +13,11 @@ use Rattle.py_meaning.specs.Steps.{Costing, Change, aside, done, costs, go_on as
 use Rattle.py_meaning.specs.Worlds.{World}
 use Rattle.py_plain.specs.declared.judged.Judged.{Judged}
 use Rattle.py_plain.specs.declared.run.Abrupt.{Abrupt}
-use Rattle.py_plain.specs.declared.run.Abrupt.TheVariants.{OutOfSteps}
 use Rattle.py_plain.specs.declared.state.State.{State}
 use Rattle.py_plain.specs.Calls.{makes_instance}
 use Rattle.py_plain.specs.Laws.{IsOfTest}
 use Rattle.py_plain.specs.Names.{is_bound}
-use Rattle.py_plain.specs.Runs.{Watcher, Outcome, Run, Finding, go_on, ◌>>=◌, pure, stop, gives, tests, raises, settled, performs, asks, performs_value, begins, begins_with, noted, decides, told}
+use Rattle.py_plain.specs.Runs.{Watcher, Outcome, Run, go_on, ◌>>=◌, pure, stop, gives, tests, raises, settled, performs, asks, performs_value, begins, begins_with, noted, decides, told}
 
 -- a list with more at its end
 pub record Extends {A : Type 0} (xs ys : List A) : Type 0 where

@@ -1,5 +1,5 @@
 -- An assertion changes nothing: its subject, its display and its class make objects at most.
-use Rattle.std.proofs.Common.{◌≡◌, ℕ, zero, suc, Bool, true, false, ◌&&◌, List, [], ◌∷◌, ◌++◌, length, map, ◌||◌, refl, sym, ap, ◌∙◌, subst, Option, Some, None}
+use Rattle.std.proofs.Common.{◌≡◌, ℕ, zero, suc, Bool, true, false, ◌&&◌, List, [], ◌∷◌, ◌++◌, length, map, ◌||◌, refl, sym, ap, subst, Option, Some, None}
 use Rattle.std.specs.Prelude.{if◌then◌else◌, take, nat_le, bytes_eq, codes, IsTrue}
 use Rattle.std.proofs.lemmas.Slice.Eq.{bytes_eq-Decides}
 use Rattle.std.specs.List.{list_all}
@@ -13,7 +13,7 @@ use Rattle.pyn_base.specs.declared.ids.NodeId.{NodeId}
 use Rattle.pyn_base.specs.declared.ids.ObjId.{ObjId}
 use Rattle.py_syntax.specs.declared.expr.Args.{Args, out-Args}
 use Rattle.py_syntax.specs.declared.expr.Expr.{Expr}
-use Rattle.py_syntax.specs.declared.expr.ExprKind.{ExprKind, ExprKind-F}
+use Rattle.py_syntax.specs.declared.expr.ExprKind.{ExprKind-F}
 use Rattle.py_syntax.specs.declared.operator.CmpOp.{CmpOp}
 use Rattle.py_syntax.specs.declared.operator.CmpOp.TheVariants.{Eq, Same}
 use Rattle.py_syntax.specs.declared.operator.Sign.TheVariants.{Minus}
@@ -36,10 +36,9 @@ use Rattle.py_meaning.specs.Keys.{all_keys, as_key}
 use Rattle.py_meaning.specs.Methods.{Names, named, is_among, list_methods, dict_methods, text_methods, left_of_list, left_of_dict, left_of_tuple, left_of_integer, left_of_text}
 use Rattle.py_meaning.specs.Operations.{kind_of, args_of, attr_get, make_list, make_dict, for_key, made, put_all}
 use Rattle.py_meaning.specs.Operators.{compare}
-use Rattle.py_meaning.specs.Steps.{Costing, Change, aside, done}
+use Rattle.py_meaning.specs.Steps.{Costing, done}
 use Rattle.py_meaning.specs.Tuples.{depth_over, tuple_limit, measured}
 use Rattle.py_meaning.specs.Worlds.{World, Pairs, object_at}
-use Rattle.py_plain.specs.declared.judged.Judged.{Judged}
 use Rattle.py_plain.specs.declared.run.Abrupt.TheVariants.{Raised, Left}
 use Rattle.py_plain.specs.declared.run.Callee.{Callee}
 use Rattle.py_plain.specs.declared.run.Callee.TheVariants as callee
@@ -47,23 +46,20 @@ use Rattle.py_plain.specs.declared.state.Frame.{Frame}
 use Rattle.py_plain.specs.declared.state.Space.{Space}
 use Rattle.py_plain.specs.declared.state.State.{State}
 use Rattle.py_plain.specs.Assertions.{ExprNode, is_name, is_subject, is_truth_or_none, is_integer, is_display_by, is_display, names_module, is_class, asks_class, calls_isinstance, is_comparison, is_condition, is_assertion_by, is_assertion}
-use Rattle.py_plain.specs.Attributes.{finds_method, finds_none, known_args, missing_member, missing_of_class, found_or, bound_or, value_or, finds_above, finds_in_instance, finds_in_class, finds_in_object, finds_in_module, finds_in, finds, read_found}
+use Rattle.py_plain.specs.Attributes.{finds_method, finds_none, missing_member, missing_of_class, found_or, bound_or, value_or, finds_above, finds_in_class, finds_in_object, finds_in, read_found}
 use Rattle.py_plain.specs.BuiltNames.{built_functions}
-use Rattle.py_plain.specs.Builtins.{isinstance_row, calls_builtin}
-use Rattle.py_plain.specs.Calls.{within_depth, without_named, makes_instance}
+use Rattle.py_plain.specs.Builtins.{isinstance_row}
 use Rattle.py_plain.specs.Classes.{is_exception, class_member}
-use Rattle.py_plain.specs.Decisions.{chain, judged_chain}
-use Rattle.py_plain.specs.Displays.{makes_list, makes_tuple, makes_dict, list_display, tuple_display, dict_display}
+use Rattle.py_plain.specs.Displays.{list_display, tuple_display, dict_display}
 use Rattle.py_plain.specs.Exceptions.{fails}
-use Rattle.py_plain.specs.Expressions.{value_by, arguments, plain_arguments, calls_meant, calls_expr}
+use Rattle.py_plain.specs.Expressions.{value_by, plain_arguments, calls_meant, calls_expr}
 use Rattle.py_plain.specs.Laws.{IsOfTest, cut_back}
 use Rattle.py_plain.specs.Names.{is_bound, lookup, is_some, is_local, globals, function_at, builtin_meant, builtin_in, found_local, found_class, found_global, reads_in, reads_unless, reads, reads_name}
 use Rattle.py_plain.specs.Nodes.{kind_of_expr, kind_of_stmt}
-use Rattle.py_plain.specs.Operators.{signs, compares, judged_comparison}
 use Rattle.py_plain.specs.Program.{Function, Program}
-use Rattle.py_plain.specs.Runs.{Watcher, Run, Finding, nothing, passes, begins, ◌>>◌, ◌>>=◌, gives}
+use Rattle.py_plain.specs.Runs.{Watcher, Run, Finding, nothing, passes, begins}
 use Rattle.py_plain.specs.Statements.{value_of, means, does_by}
-use Rattle.py_plain.proofs.Appends.{Extends, extends_one, Longer, Appends, Longest, Adds, appends_same, appends_at, appends_pure, appends_stop, appends_gives, appends_tests, appends_raises, appends_if, appends_makes, appends_bind, appends_performs, appends_performs_value, appends_begins, appends_decides, adds_costs, adds_aside, appends_asks}
+use Rattle.py_plain.proofs.Appends.{extends_one, Longer, Appends, Longest, Adds, appends_same, appends_at, appends_pure, appends_stop, appends_gives, appends_tests, appends_raises, appends_if, appends_makes, appends_bind, appends_performs, appends_performs_value, appends_begins, appends_decides, adds_costs, adds_aside, appends_asks}
 use Rattle.py_plain.proofs.FrugalOwn.{operations}
 use Rattle.py_plain.proofs.Levels.{value_of-out, means-out}
 
@@ -74,6 +70,10 @@ left_of false b h = h
 right_of : (a b : Bool) → IsTrue (a && b) → IsTrue b
 right_of true b h = h
 right_of false b h = cc
+
+pub take_front : {A : Type 0} (xs ys : List A) → take (length xs) (xs ++ ys) ≡ xs
+take_front [] ys = refl
+take_front (x ∷ xs) ys = ap (λ l. x ∷ l) (take_front xs ys)
 
 -- ---- objects that displays make
 
@@ -300,10 +300,6 @@ module _ {W : Type 0} (watcher : Watcher W) (program : Program) where
   assertion_appends : (levels : ℕ) (stmt : Stmt) → IsTrue (is_assertion levels stmt) → Appends (means watcher program stmt)
   assertion_appends levels stmt h = appends_same (means watcher program stmt) _ (means-out watcher program (operations program) stmt)
       (appends_bind (begins watcher stmt.node) _ (appends_begins watcher stmt.node) (λ _. statement_appends levels stmt.node (kind_of_stmt stmt) h))
-
-  take_front : {A : Type 0} (xs ys : List A) → take (length xs) (xs ++ ys) ≡ xs
-  take_front [] ys = refl
-  take_front (x ∷ xs) ys = ap (λ l. x ∷ l) (take_front xs ys)
 
   cut_longer : (s t : State World W) → Longer s t → cut_back W s t ≡ s
   cut_longer s t h = rw h.frame (rw h.space (rw h.depth (rw h.seen (rw h.objects.same (rw (take_front s.objects h.objects.added) refl)))))

@@ -23,6 +23,13 @@ pub mod LikeValues
 pub mod LoopLaws
 pub mod Appends
 pub mod Asserting
+pub mod Fine
+pub mod SoundParts
+pub mod FineValues
+pub mod FineCalls
+pub mod FineStatements
+pub mod FineRuns
+pub mod RunLaws
 pub mod Yields
 pub mod ExamplesNames
 pub mod ExamplesAssignments

@@ -1,6 +1,6 @@
 -- The assertions of a suite file: `assert S is None` (or True, or False), `assert S == DISPLAY` and `assert isinstance(NAME, CLASS)`. S is a
 -- variable or an attribute of one (Language Reference 7.3).
-use Rattle.std.specs.Prelude.{ℕ, zero, suc, Bool, true, false, ◌&&◌, List, [], ◌∷◌, Option, Some, None, bytes_eq, codes}
+use Rattle.std.specs.Prelude.{ℕ, zero, suc, Bool, true, false, ◌&&◌, List, [], ◌∷◌, None, bytes_eq, codes}
 use Rattle.std.specs.List.{list_all}
 use Rattle.py_syntax.specs.declared.expr.Args.{Args, out-Args}
 use Rattle.py_syntax.specs.declared.expr.Expr.{Expr}

@@ -1,5 +1,5 @@
 -- Worked examples of the assertions of a suite file.
-use Rattle.std.specs.Prelude.{◌≡◌, pos, true, false, List, [], ◌∷◌, None, codes}
+use Rattle.std.specs.Prelude.{◌≡◌, pos, true, false, [], ◌∷◌, None, codes}
 use Rattle.py_syntax.specs.declared.expr.Expr.{Expr}
 use Rattle.py_syntax.specs.declared.expr.ExprKind.TheVariants as x
 use Rattle.py_syntax.specs.declared.operator.CmpOp.{CmpOp}

@@ -19,7 +19,9 @@ pub mod Import
 pub mod Tests
 pub mod Examples
 pub mod Assertions
+pub mod SoundStates
 pub mod Laws
+pub mod LawsOfRuns
 pub mod ExamplesNames
 pub mod ExamplesAssignments
 pub mod ExamplesOperators

@@ -36,7 +36,7 @@ pub use decisions_examples::decisions_by_example;
 pub use exceptions_examples::exceptions_by_example;
 pub use import_examples::import_by_example;
 pub use judged::Judged;
-pub use laws::laws_of_meaning;
+pub use laws::{laws_of_meaning, laws_of_runs};
 pub use loops_examples::loops_by_example;
 pub use names_examples::names_by_example;
 pub use operators_examples::operators_by_example;

@@ -29,6 +29,7 @@ pub mod FineValues
 pub mod FineCalls
 pub mod FineStatements
 pub mod FineRuns
+pub mod Counting
 pub mod RunLaws
 pub mod Yields
 pub mod ExamplesNames

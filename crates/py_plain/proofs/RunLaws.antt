@@ -1,5 +1,5 @@
 -- The laws of whole runs, from what is claimed of them.
-use Rattle.std.proofs.Common.{◌≡◌, ℕ, [], ◌∷◌, length, refl, ap, ◌∙◌, Err}
+use Rattle.std.proofs.Common.{◌≡◌, ℕ, ◌+◌, ◌*◌, ◌≤◌, [], ◌∷◌, length, refl, ap, ◌∙◌, arith, Err}
 use Rattle.std.specs.Prelude.{take}
 use Rattle.py_syntax.specs.declared.stmt.Stmt.{Stmt}
 use Rattle.py_meaning.specs.Worlds.{World}
@@ -13,7 +13,8 @@ use Rattle.py_plain.specs.Statements.{means}
 use Rattle.py_plain.specs.Tests.{Trail, recorder, Began, Decided}
 use Rattle.py_plain.proofs.Appends.{Extends, extends_self, extends_both}
 use Rattle.py_plain.proofs.Asserting.{take_front}
-use Rattle.py_plain.proofs.Fine.{Sound, Prefix, Growth, Steady, Same, Out, more}
+use Rattle.py_plain.proofs.Fine.{Sound, Paid, Prefix, Growth, Steady, Same, Out, more, allowed_none}
+use Rattle.py_plain.proofs.Counting.{counts}
 use Rattle.py_plain.proofs.FineRuns.{means_fine}
 use Rattle.py_plain.proofs.FrugalOwn.{operations}
 
@@ -35,6 +36,12 @@ module _ {W : Type 0} (watcher : Watcher W) (program : Program) (stmt : Stmt) (s
   pub soundness_kept : SoundState s → KeptSound FindingFits s (means watcher program stmt s)
   unfolding any_growth
   soundness_kept h = (means_fine (any_growth watcher) Sound program (operations program) (λ on. cc) stmt s 0 (λ on. h)).sound refl
+
+  pub objects_paid : length (means watcher program stmt s).1.objects + 2 * (means watcher program stmt s).1.left ≤ length s.objects + 2 * s.left
+  unfolding any_growth
+  objects_paid =
+      let made = (means_fine (any_growth watcher) Paid program (operations program) (λ on. counts) stmt s 0 (λ on. cc)).paid refl in
+      let none = allowed_none (any_growth watcher) Paid (means watcher program stmt s).0 in omega (arith, made, none)
 
   pub enough_steps : (m : ℕ) → ((means watcher program stmt s).0 ≡ Err OutOfSteps → ⊥) → means watcher program stmt (with_more m s) ≡ ((means watcher program stmt s).0, with_more m (means watcher program stmt s).1)
   unfolding any_growth

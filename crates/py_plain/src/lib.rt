@@ -5,7 +5,9 @@
 //! `Exceptions`, and `Expressions` and `Statements`, which join them; `Import` has the state in which a test begins, and `Tests` a
 //! test's statements. A run is a function of one state. The definitions recurse on the tree and on a number of steps, and
 //! `laws_of_meaning` says that the number plays no part: one level at a time, an expression and a statement mean their node's
-//! step and what their kind means. A watcher sees each node that begins and each decision, and changes nothing.
+//! step and what their kind means. A watcher sees each node that begins and each decision, and changes nothing. `laws_of_runs`
+//! says what holds of whole runs, of soundness, of objects and of the steps left, and `Assertions` which statements are a suite file's
+//! assertions: these change nothing.
 //!
 //! The plain data types that the meaning and the machine share are in `src`. The crate knows nothing of a stack, and keeps
 //! no table of objects: what a state's objects are is a parameter.

@@ -1,4 +1,5 @@
 -- The operations of `Membership` gain no steps.
+use Rattle.std.proofs.Common.{refl}
 use Rattle.std.specs.Prelude.{ℕ, suc, ◌+◌, ℤ, List, [], ◌∷◌, length, Option, Some, None}
 use Rattle.pyn_base.specs.declared.ids.ObjId.{ObjId}
 use Rattle.py_meaning.specs.declared.object.ObjKind.{ObjKind}
@@ -33,7 +34,7 @@ pub frugal_any_equal : (x1 : World) → (x2 : Value) → (x3 : List Value) → F
 frugal_any_equal world item items = frugal_then _ _ (frugal_equal_place 1 world item 0 items) (λ place. frugal_done _)
 
 pub frugal_is_key_of : (x1 : ObjId) → (x2 : Value) → (x3 : World) → Frugal (is_key_of x1 x2 x3)
-frugal_is_key_of dict key world = frugal_read_as is_found _ (frugal_dict_get dict key world)
+frugal_is_key_of dict key world = frugal_read_as is_found _ refl (frugal_dict_get dict key world)
 
 pub frugal_in_counted : (x1 : ℤ) → (x2 : ℤ) → (x3 : ℤ) → (x4 : Option ℤ) → Frugal (in_counted x1 x2 x3 x4)
 frugal_in_counted start stop step None = frugal_done _

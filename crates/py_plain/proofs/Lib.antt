@@ -21,6 +21,16 @@ pub mod LikeCalls
 pub mod LikeStatements
 pub mod LikeValues
 pub mod LoopLaws
+pub mod Appends
+pub mod Asserting
+pub mod Fine
+pub mod SoundParts
+pub mod FineValues
+pub mod FineCalls
+pub mod FineStatements
+pub mod FineRuns
+pub mod Counting
+pub mod RunLaws
 pub mod Yields
 pub mod ExamplesNames
 pub mod ExamplesAssignments

@@ -18,7 +18,10 @@ pub mod Statements
 pub mod Import
 pub mod Tests
 pub mod Examples
+pub mod Assertions
+pub mod SoundStates
 pub mod Laws
+pub mod LawsOfRuns
 pub mod ExamplesNames
 pub mod ExamplesAssignments
 pub mod ExamplesOperators
@@ -29,3 +32,4 @@ pub mod ExamplesClasses
 pub mod ExamplesExceptions
 pub mod ExamplesLoops
 pub mod ExamplesImport
+pub mod ExamplesAssertions

@@ -5,12 +5,15 @@
 //! `Exceptions`, and `Expressions` and `Statements`, which join them; `Import` has the state in which a test begins, and `Tests` a
 //! test's statements. A run is a function of one state. The definitions recurse on the tree and on a number of steps, and
 //! `laws_of_meaning` says that the number plays no part: one level at a time, an expression and a statement mean their node's
-//! step and what their kind means. A watcher sees each node that begins and each decision, and changes nothing.
+//! step and what their kind means. A watcher sees each node that begins and each decision, and changes nothing. `laws_of_runs`
+//! says what holds of whole runs, of soundness, of objects and of the steps left, and `Assertions` which statements are a suite file's
+//! assertions: these change nothing.
 //!
 //! The plain data types that the meaning and the machine share are in `src`. The crate knows nothing of a stack, and keeps
 //! no table of objects: what a state's objects are is a parameter.
 #![tactic(auto)]
 
+mod assertions_examples;
 mod assignments_examples;
 mod builtins_examples;
 mod calls_examples;
@@ -26,6 +29,7 @@ mod operators_examples;
 mod run;
 mod state;
 
+pub use assertions_examples::assertions_by_example;
 pub use assignments_examples::assignments_by_example;
 pub use builtins_examples::builtins_by_example;
 pub use calls_examples::calls_by_example;
@@ -34,7 +38,7 @@ pub use decisions_examples::decisions_by_example;
 pub use exceptions_examples::exceptions_by_example;
 pub use import_examples::import_by_example;
 pub use judged::Judged;
-pub use laws::laws_of_meaning;
+pub use laws::{laws_of_meaning, laws_of_runs};
 pub use loops_examples::loops_by_example;
 pub use names_examples::names_by_example;
 pub use operators_examples::operators_by_example;

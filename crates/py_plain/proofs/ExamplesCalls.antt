@@ -263,3 +263,12 @@ pub out_of_steps_in_call_0 : Yields (means_out_of_steps_in_call out_of_steps_in_
 unfolding equal ordered
 out_of_steps_in_call_0 =
     stmt_node recorder program_out_of_steps_in_call out_of_steps_in_call_t3 7 (y.outs-Assign ((target.Name (codes "var_8")) ∷ []) false None out_of_steps_in_call_t2) refl (then_err (value_out_of_steps_in_call out_of_steps_in_call_t2) _ OutOfSteps out_of_steps_in_call_0_at_4 (expr_node recorder program_out_of_steps_in_call out_of_steps_in_call_t2 6 (x.outs-Method out_of_steps_in_call_t1 (codes "f") (args [] [])) refl (then_ok (value_out_of_steps_in_call out_of_steps_in_call_t1) _ (v.ModuleRef, (j.Plain true)) (state_out_of_steps_in_call None [] [] [] 0 5 []) (expr_node recorder program_out_of_steps_in_call out_of_steps_in_call_t1 5 (x.outs-Name (codes "module_0")) refl (leaf (simp views))) (then_ok (finds program_out_of_steps_in_call v.ModuleRef (codes "f")) _ (callee.Value (v.Func (func_id 1))) (state_out_of_steps_in_call None [] [] [] 0 5 []) (leaf (first_of (simp views, simp tuples, search))) (as_run (plain_arguments recorder program_out_of_steps_in_call (value_out_of_steps_in_call) (means_out_of_steps_in_call) (callee.Value (v.Func (func_id 1))) [] [] []) (ap (λ args. plain_arguments recorder program_out_of_steps_in_call (value_out_of_steps_in_call) (means_out_of_steps_in_call) (callee.Value (v.Func (func_id 1))) [] args.plain args.named (state_out_of_steps_in_call None [] [] [] 0 5 [])) (out-roll-Args _)) (as_run (calls_function recorder program_out_of_steps_in_call (means_out_of_steps_in_call) (func_id 1) [] []) (ap (λ level. calls_value recorder program_out_of_steps_in_call (means_out_of_steps_in_call) level [] [] (state_out_of_steps_in_call None [] [] [] 0 5 [])) (outs-Func _)) (as_run (inside recorder program_out_of_steps_in_call (means_out_of_steps_in_call) (func_id 1) function_out_of_steps_in_call_1 []) (let same : calls_function recorder program_out_of_steps_in_call (means_out_of_steps_in_call) (func_id 1) [] [] (state_out_of_steps_in_call None [] [] [] 0 5 []) ≡ inside recorder program_out_of_steps_in_call (means_out_of_steps_in_call) (func_id 1) function_out_of_steps_in_call_1 [] (state_out_of_steps_in_call None [] [] [] 0 5 []) = refl in same) (gives_same (leaves (state_out_of_steps_in_call None [] [] [] 0 5 []).frame ((Err OutOfSteps), out_of_steps_in_call_0_at_2)) (in_frame recorder program_out_of_steps_in_call (func_id 1) function_out_of_steps_in_call_1 [] (Err OutOfSteps) out_of_steps_in_call_0_at_2 (then_ok (begins recorder (node 3)) _ tt (state_out_of_steps_in_call (Some (func_id 1)) [] [] [] 1 4 (began 3 ∷ [])) (leaf refl) (then_err (means_out_of_steps_in_call out_of_steps_in_call_n4) _ OutOfSteps out_of_steps_in_call_0_at_2 (stmt_node recorder program_out_of_steps_in_call out_of_steps_in_call_n4 3 (y.outs-Return (Some out_of_steps_in_call_n5)) refl (then_err (value_out_of_steps_in_call out_of_steps_in_call_n5) _ OutOfSteps out_of_steps_in_call_0_at_2 (expr_node recorder program_out_of_steps_in_call out_of_steps_in_call_n5 2 (x.outs-Call out_of_steps_in_call_n6 (args (out_of_steps_in_call_n7 ∷ []) [])) refl (as_run (calls_meant recorder program_out_of_steps_in_call (value_out_of_steps_in_call) (means_out_of_steps_in_call) None out_of_steps_in_call_n6 (args (out_of_steps_in_call_n7 ∷ []) [])) (ap (λ kind. calls_expr recorder program_out_of_steps_in_call (value_out_of_steps_in_call) (means_out_of_steps_in_call) kind out_of_steps_in_call_n6 (args (out_of_steps_in_call_n7 ∷ []) []) (state_out_of_steps_in_call (Some (func_id 1)) [] [] [] 1 2 (began 3 ∷ began 4 ∷ began 5 ∷ []))) (x.outs-Name (codes "g"))) (then_ok (value_out_of_steps_in_call out_of_steps_in_call_n6) _ ((v.Func (func_id 0)), (j.Plain true)) out_of_steps_in_call_0_at_3 (expr_node recorder program_out_of_steps_in_call out_of_steps_in_call_n6 1 (x.outs-Name (codes "g")) refl (leaf (simp views))) (as_run (plain_arguments recorder program_out_of_steps_in_call (value_out_of_steps_in_call) (means_out_of_steps_in_call) (callee.Value (v.Func (func_id 0))) [] (out_of_steps_in_call_n7 ∷ []) []) (ap (λ args. plain_arguments recorder program_out_of_steps_in_call (value_out_of_steps_in_call) (means_out_of_steps_in_call) (callee.Value (v.Func (func_id 0))) [] args.plain args.named out_of_steps_in_call_0_at_3) (out-roll-Args _)) (then_ok (value_out_of_steps_in_call out_of_steps_in_call_n7) _ ((v.Int (pos 1)), (j.Plain true)) out_of_steps_in_call_0_at_2 (expr_node recorder program_out_of_steps_in_call out_of_steps_in_call_n7 0 (x.outs-IntLit (pos 1)) refl (leaf (simp views))) (as_run (calls_function recorder program_out_of_steps_in_call (means_out_of_steps_in_call) (func_id 0) ((v.Int (pos 1)) ∷ []) []) (ap (λ level. calls_value recorder program_out_of_steps_in_call (means_out_of_steps_in_call) level ((v.Int (pos 1)) ∷ []) [] out_of_steps_in_call_0_at_2) (outs-Func _)) (as_run (inside recorder program_out_of_steps_in_call (means_out_of_steps_in_call) (func_id 0) function_out_of_steps_in_call_0 (((codes "a"), (v.Int (pos 1))) ∷ [])) (let same : calls_function recorder program_out_of_steps_in_call (means_out_of_steps_in_call) (func_id 0) ((v.Int (pos 1)) ∷ []) [] out_of_steps_in_call_0_at_2 ≡ inside recorder program_out_of_steps_in_call (means_out_of_steps_in_call) (func_id 0) function_out_of_steps_in_call_0 (((codes "a"), (v.Int (pos 1))) ∷ []) out_of_steps_in_call_0_at_2 = refl in same) (gives_same (leaves out_of_steps_in_call_0_at_2.frame ((Err OutOfSteps), out_of_steps_in_call_0_at_1)) (in_frame recorder program_out_of_steps_in_call (func_id 0) function_out_of_steps_in_call_0 (((codes "a"), (v.Int (pos 1))) ∷ []) (Err OutOfSteps) out_of_steps_in_call_0_at_1 (then_err (begins recorder (node 0)) _ OutOfSteps out_of_steps_in_call_0_at_1 (leaf refl))) (refl)))))))))))))) (refl)))))))))
+
+pub call_depth_0 : Yields (means_out_of_steps_before_function out_of_steps_before_function_t4) (state_out_of_steps_before_function None [] [] [] 200 300 []) ((Err (Left construct.CallDepth)), (state_out_of_steps_before_function None [] [] [] 200 296 []))
+call_depth_0 =
+    stmt_node recorder program_out_of_steps_before_function out_of_steps_before_function_t4 299 (y.outs-Assign ((target.Name (codes "var_0")) ∷ []) false None out_of_steps_before_function_t3) refl (then_err (value_out_of_steps_before_function out_of_steps_before_function_t3) _ (Left construct.CallDepth) (state_out_of_steps_before_function None [] [] [] 200 296 [])
+    (expr_node recorder program_out_of_steps_before_function out_of_steps_before_function_t3 298 (x.outs-Method out_of_steps_before_function_t1 (codes "f") (args (out_of_steps_before_function_t2 ∷ []) [])) refl (then_ok (value_out_of_steps_before_function out_of_steps_before_function_t1) _ (v.ModuleRef, (j.Plain true)) (state_out_of_steps_before_function None [] [] [] 200 297 [])
+    (expr_node recorder program_out_of_steps_before_function out_of_steps_before_function_t1 297 (x.outs-Name (codes "module_0")) refl (leaf (simp views))) (then_ok (finds program_out_of_steps_before_function v.ModuleRef (codes "f")) _ (callee.Value (v.Func (func_id 0))) (state_out_of_steps_before_function None [] [] [] 200 297 []) (leaf (first_of (simp views, simp tuples, search)))
+    (as_run (plain_arguments recorder program_out_of_steps_before_function (value_out_of_steps_before_function) (means_out_of_steps_before_function) (callee.Value (v.Func (func_id 0))) [] (out_of_steps_before_function_t2 ∷ []) []) (ap (λ args. plain_arguments recorder program_out_of_steps_before_function (value_out_of_steps_before_function) (means_out_of_steps_before_function) (callee.Value (v.Func (func_id 0))) [] args.plain args.named (state_out_of_steps_before_function None [] [] [] 200 297 [])) (out-roll-Args _))
+    (then_ok (value_out_of_steps_before_function out_of_steps_before_function_t2) _ ((v.Int (pos 1)), (j.Plain true)) (state_out_of_steps_before_function None [] [] [] 200 296 []) (expr_node recorder program_out_of_steps_before_function out_of_steps_before_function_t2 296 (x.outs-IntLit (pos 1)) refl (leaf (simp views)))
+    (as_run (calls_function recorder program_out_of_steps_before_function (means_out_of_steps_before_function) (func_id 0) ((v.Int (pos 1)) ∷ []) []) (ap (λ level. calls_value recorder program_out_of_steps_before_function (means_out_of_steps_before_function) level ((v.Int (pos 1)) ∷ []) [] (state_out_of_steps_before_function None [] [] [] 200 296 [])) (outs-Func _)) (leaf refl))))))))

@@ -1,9 +1,12 @@
 -- Derivations of the worked examples of classes (3.2 and 8.8): each is a tree of the run, from rules of `Yields`.
+use Rattle.std.specs.Prelude.{nat_le, if◌then◌else◌, pos, true, false, [], ◌∷◌, Some, None, Ok, Err, codes}
+use Rattle.py_meaning.specs.Tuples.{depth_over, tuple_limit, measured, tuple}
+use Rattle.py_plain.specs.Calls.{instantiates, initializes, makes_instance, within_depth, leaves, inside, calls_function, calls_value, calls_class, initialized, finds_super}
+use Rattle.py_plain.specs.Runs.{stop, ◌>>=◌, begins, Run, Finding}
 use Rattle.py_meaning.specs.Equal.{equal}
 use Rattle.py_meaning.specs.Examples.{id, ref}
 use Rattle.py_meaning.specs.Folds.{tuple-out, key_cost-Tuple, key_cost-out, as_key-Tuple, as_key-out, same_key-Tuple, same_key-out}
 use Rattle.py_meaning.specs.Less.{ordered}
-use Rattle.py_meaning.specs.Tuples.{tuple}
 use Rattle.py_meaning.specs.Worlds.{World}
 use Rattle.py_meaning.specs.declared.object.Object.TheVariants as object
 use Rattle.py_meaning.specs.declared.value.Value.TheVariants as v
@@ -12,11 +15,9 @@ use Rattle.py_meaning.specs.declared.value.Value.{out-Value}
 use Rattle.py_plain.proofs.Yields.{Yields, leaf, as_run, gives_same, then_ok, then_err, stmt_node, expr_node, in_frame}
 use Rattle.py_plain.specs.Assignments.{stores}
 use Rattle.py_plain.specs.Attributes.{finds}
-use Rattle.py_plain.specs.Calls.{leaves, inside, calls_function, calls_value, calls_class, makes_instance, initializes, initialized, finds_super}
 use Rattle.py_plain.specs.Examples.{node, args, func_id, began}
-use Rattle.py_plain.specs.ExamplesClasses.{class_function_n2, class_function_n3, class_function_n1, class_function_n8, class_function_n7, class_function_n9, class_function_n6, class_function_n5, class_function_n13, class_function_n15, class_function_n16, class_function_n14, class_function_n17, class_function_n12, class_function_n11, class_function_t3, class_function_t4, class_function_t5, function_class_function_0, function_class_function_1, function_class_function_2, program_class_function, state_class_function, init_returns_n2, init_returns_n1, init_returns_n6, init_returns_n5, init_returns_n4, init_returns_t1, init_returns_t2, init_returns_t3, function_init_returns_0, function_init_returns_1, program_init_returns, state_init_returns, super_chain_n2, super_chain_n3, super_chain_n1, super_chain_n8, super_chain_n7, super_chain_n9, super_chain_n6, super_chain_n5, super_chain_n14, super_chain_n13, super_chain_n15, super_chain_n12, super_chain_n11, super_chain_n19, super_chain_n18, super_chain_n17, super_chain_n24, super_chain_n23, super_chain_n25, super_chain_n22, super_chain_n21, super_chain_n31, super_chain_n32, super_chain_n30, super_chain_n33, super_chain_n29, super_chain_n36, super_chain_n35, super_chain_n34, super_chain_n39, super_chain_n38, super_chain_n37, super_chain_n28, super_chain_n27, super_chain_t3, super_chain_t4, super_chain_t5, function_super_chain_0, function_super_chain_1, function_super_chain_2, function_super_chain_3, function_super_chain_4, function_super_chain_5, program_super_chain, state_super_chain, super_of_class_n2, super_of_class_n1, super_of_class_n6, super_of_class_n7, super_of_class_n5, super_of_class_n4, super_of_class_t1, super_of_class_t2, super_of_class_t3, function_super_of_class_0, function_super_of_class_1, program_super_of_class, state_super_of_class, mro_n13, mro_n12, mro_n11, mro_t3, mro_t4, mro_t5, function_mro_2, program_mro, state_mro, missing_of_class_n13, missing_of_class_n12, missing_of_class_n11, missing_of_class_t3, missing_of_class_t4, missing_of_class_t5, function_missing_of_class_2, program_missing_of_class, state_missing_of_class, set_class_attribute_n12, set_class_attribute_n13, set_class_attribute_n11, set_class_attribute_t3, set_class_attribute_t4, set_class_attribute_t5, function_set_class_attribute_2, program_set_class_attribute, state_set_class_attribute, inherited_constant_n2, inherited_constant_n3, inherited_constant_n1, inherited_constant_n14, inherited_constant_n13, inherited_constant_n17, inherited_constant_n16, inherited_constant_n15, inherited_constant_n12, inherited_constant_n11, inherited_constant_t3, inherited_constant_t4, inherited_constant_t5, function_inherited_constant_0, function_inherited_constant_2, program_inherited_constant, state_inherited_constant}
+use Rattle.py_plain.specs.ExamplesClasses.{exception_init_n1, exception_init_t1, exception_init_t2, exception_init_t3, exception_init_t4, function_exception_init_0, program_exception_init, state_exception_init, seven_raised, class_function_n2, class_function_n3, class_function_n1, class_function_n8, class_function_n7, class_function_n9, class_function_n6, class_function_n5, class_function_n13, class_function_n15, class_function_n16, class_function_n14, class_function_n17, class_function_n12, class_function_n11, class_function_t3, class_function_t4, class_function_t5, function_class_function_0, function_class_function_1, function_class_function_2, program_class_function, state_class_function, init_returns_n2, init_returns_n1, init_returns_n6, init_returns_n5, init_returns_n4, init_returns_t1, init_returns_t2, init_returns_t3, function_init_returns_0, function_init_returns_1, program_init_returns, state_init_returns, super_chain_n2, super_chain_n3, super_chain_n1, super_chain_n8, super_chain_n7, super_chain_n9, super_chain_n6, super_chain_n5, super_chain_n14, super_chain_n13, super_chain_n15, super_chain_n12, super_chain_n11, super_chain_n19, super_chain_n18, super_chain_n17, super_chain_n24, super_chain_n23, super_chain_n25, super_chain_n22, super_chain_n21, super_chain_n31, super_chain_n32, super_chain_n30, super_chain_n33, super_chain_n29, super_chain_n36, super_chain_n35, super_chain_n34, super_chain_n39, super_chain_n38, super_chain_n37, super_chain_n28, super_chain_n27, super_chain_t3, super_chain_t4, super_chain_t5, function_super_chain_0, function_super_chain_1, function_super_chain_2, function_super_chain_3, function_super_chain_4, function_super_chain_5, program_super_chain, state_super_chain, super_of_class_n2, super_of_class_n1, super_of_class_n6, super_of_class_n7, super_of_class_n5, super_of_class_n4, super_of_class_t1, super_of_class_t2, super_of_class_t3, function_super_of_class_0, function_super_of_class_1, program_super_of_class, state_super_of_class, mro_n13, mro_n12, mro_n11, mro_t3, mro_t4, mro_t5, function_mro_2, program_mro, state_mro, missing_of_class_n13, missing_of_class_n12, missing_of_class_n11, missing_of_class_t3, missing_of_class_t4, missing_of_class_t5, function_missing_of_class_2, program_missing_of_class, state_missing_of_class, set_class_attribute_n12, set_class_attribute_n13, set_class_attribute_n11, set_class_attribute_t3, set_class_attribute_t4, set_class_attribute_t5, function_set_class_attribute_2, program_set_class_attribute, state_set_class_attribute, inherited_constant_n2, inherited_constant_n3, inherited_constant_n1, inherited_constant_n14, inherited_constant_n13, inherited_constant_n17, inherited_constant_n16, inherited_constant_n15, inherited_constant_n12, inherited_constant_n11, inherited_constant_t3, inherited_constant_t4, inherited_constant_t5, function_inherited_constant_0, function_inherited_constant_2, program_inherited_constant, state_inherited_constant}
 use Rattle.py_plain.specs.Expressions.{plain_arguments, calls_meant, calls_expr}
-use Rattle.py_plain.specs.Runs.{begins, ◌>>=◌, Run, Finding}
 use Rattle.py_plain.specs.Statements.{means, value_of}
 use Rattle.py_plain.specs.Tests.{recorder, Trail}
 use Rattle.py_plain.specs.declared.judged.Judged.TheVariants as j
@@ -34,7 +35,6 @@ use Rattle.pyn_base.specs.declared.class.BuiltClass.TheVariants as built
 use Rattle.pyn_base.specs.declared.class.ClassId.TheVariants.{Built, Own}
 use Rattle.pyn_base.specs.declared.construct.Construct.TheVariants as construct
 use Rattle.std.proofs.Common.{◌≡◌, refl, ap}
-use Rattle.std.specs.Prelude.{pos, true, false, [], ◌∷◌, Some, None, Ok, Err, codes}
 
 ruleset views = (tuple-out, outs-None, outs-Bool, outs-Int, outs-Str, outs-Tuple, outs-Ref, outs-Class, outs-Func, outs-View, outs-ModuleRef)
 
@@ -454,3 +454,33 @@ pub inherited_constant_0 : Yields (means_inherited_constant inherited_constant_t
 unfolding equal ordered
 inherited_constant_0 =
     stmt_node recorder program_inherited_constant inherited_constant_t5 299 (y.outs-Assign ((target.Name (codes "var_8")) ∷ []) false None inherited_constant_t4) refl (then_ok (value_inherited_constant inherited_constant_t4) _ ((tuple ((v.Int (pos 7)) ∷ (v.Int (pos 7)) ∷ [])), (j.Plain true)) (state_inherited_constant None [] [] (object.Instance (Own 1) (((codes "x"), (v.Int (pos 1))) ∷ []) None ∷ []) 0 283 inherited_constant_0_seen_1) (expr_node recorder program_inherited_constant inherited_constant_t4 298 (x.outs-Method inherited_constant_t3 (codes "f") (args [] [])) refl (then_ok (value_inherited_constant inherited_constant_t3) _ (v.ModuleRef, (j.Plain true)) (state_inherited_constant None [] [] [] 0 297 []) (expr_node recorder program_inherited_constant inherited_constant_t3 297 (x.outs-Name (codes "module_0")) refl (leaf (simp views))) (then_ok (finds program_inherited_constant v.ModuleRef (codes "f")) _ (callee.Value (v.Func (func_id 2))) (state_inherited_constant None [] [] [] 0 297 []) (leaf (first_of (simp views, simp tuples, search))) (as_run (plain_arguments recorder program_inherited_constant (value_inherited_constant) (means_inherited_constant) (callee.Value (v.Func (func_id 2))) [] [] []) (ap (λ args. plain_arguments recorder program_inherited_constant (value_inherited_constant) (means_inherited_constant) (callee.Value (v.Func (func_id 2))) [] args.plain args.named (state_inherited_constant None [] [] [] 0 297 [])) (out-roll-Args _)) (as_run (calls_function recorder program_inherited_constant (means_inherited_constant) (func_id 2) [] []) (ap (λ level. calls_value recorder program_inherited_constant (means_inherited_constant) level [] [] (state_inherited_constant None [] [] [] 0 297 [])) (outs-Func _)) (as_run (inside recorder program_inherited_constant (means_inherited_constant) (func_id 2) function_inherited_constant_2 []) (let same : calls_function recorder program_inherited_constant (means_inherited_constant) (func_id 2) [] [] (state_inherited_constant None [] [] [] 0 297 []) ≡ inside recorder program_inherited_constant (means_inherited_constant) (func_id 2) function_inherited_constant_2 [] (state_inherited_constant None [] [] [] 0 297 []) = refl in same) (gives_same (leaves (state_inherited_constant None [] [] [] 0 297 []).frame ((Err (Returned (tuple ((v.Int (pos 7)) ∷ (v.Int (pos 7)) ∷ [])))), inherited_constant_0_at_2)) (in_frame recorder program_inherited_constant (func_id 2) function_inherited_constant_2 [] (Err (Returned (tuple ((v.Int (pos 7)) ∷ (v.Int (pos 7)) ∷ [])))) inherited_constant_0_at_2 (then_ok (begins recorder (node 10)) _ tt (state_inherited_constant (Some (func_id 2)) [] [] [] 1 296 (began 10 ∷ [])) (leaf refl) (then_err (means_inherited_constant inherited_constant_n11) _ (Returned (tuple ((v.Int (pos 7)) ∷ (v.Int (pos 7)) ∷ []))) inherited_constant_0_at_2 (stmt_node recorder program_inherited_constant inherited_constant_n11 295 (y.outs-Return (Some inherited_constant_n12)) refl (then_ok (value_inherited_constant inherited_constant_n12) _ ((tuple ((v.Int (pos 7)) ∷ (v.Int (pos 7)) ∷ [])), (j.Plain true)) inherited_constant_0_at_2 (expr_node recorder program_inherited_constant inherited_constant_n12 294 (x.outs-TupleLit (inherited_constant_n13 ∷ inherited_constant_n15 ∷ [])) refl (then_ok (value_inherited_constant inherited_constant_n13) _ ((v.Int (pos 7)), (j.Plain true)) inherited_constant_0_at_5 (expr_node recorder program_inherited_constant inherited_constant_n13 293 (x.outs-Attr inherited_constant_n14 (codes "k")) refl (then_ok (value_inherited_constant inherited_constant_n14) _ ((v.Class (Own 1)), (j.Plain true)) inherited_constant_0_at_5 (expr_node recorder program_inherited_constant inherited_constant_n14 292 (x.outs-Name (codes "D")) refl (leaf (simp views))) (then_ok (finds program_inherited_constant (v.Class (Own 1)) (codes "k")) _ (callee.Value (v.Int (pos 7))) inherited_constant_0_at_5 (leaf (first_of (simp views, simp tuples, search))) (leaf (first_of (simp views, simp tuples, search)))))) (then_ok (value_inherited_constant inherited_constant_n15) _ ((v.Int (pos 7)), (j.Plain true)) inherited_constant_0_at_3 (expr_node recorder program_inherited_constant inherited_constant_n15 291 (x.outs-Attr inherited_constant_n16 (codes "k")) refl (then_ok (value_inherited_constant inherited_constant_n16) _ ((ref 0), (j.Plain true)) inherited_constant_0_at_3 (expr_node recorder program_inherited_constant inherited_constant_n16 290 (x.outs-Call inherited_constant_n17 (args [] [])) refl (as_run (calls_meant recorder program_inherited_constant (value_inherited_constant) (means_inherited_constant) None inherited_constant_n17 (args [] [])) (ap (λ kind. calls_expr recorder program_inherited_constant (value_inherited_constant) (means_inherited_constant) kind inherited_constant_n17 (args [] []) (state_inherited_constant (Some (func_id 2)) [] [] [] 1 290 (began 10 ∷ began 11 ∷ began 12 ∷ began 13 ∷ began 14 ∷ began 15 ∷ began 16 ∷ []))) (x.outs-Name (codes "D"))) (then_ok (value_inherited_constant inherited_constant_n17) _ ((v.Class (Own 1)), (j.Plain true)) inherited_constant_0_at_6 (expr_node recorder program_inherited_constant inherited_constant_n17 289 (x.outs-Name (codes "D")) refl (leaf (simp views))) (as_run (plain_arguments recorder program_inherited_constant (value_inherited_constant) (means_inherited_constant) (callee.Value (v.Class (Own 1))) [] [] []) (ap (λ args. plain_arguments recorder program_inherited_constant (value_inherited_constant) (means_inherited_constant) (callee.Value (v.Class (Own 1))) [] args.plain args.named inherited_constant_0_at_6) (out-roll-Args _)) (as_run (calls_class recorder program_inherited_constant (means_inherited_constant) (Own 1) [] []) (ap (λ level. calls_value recorder program_inherited_constant (means_inherited_constant) level [] [] inherited_constant_0_at_6) (outs-Class _)) (as_run (makes_instance (Own 1) None >>= (λ id. initializes recorder program_inherited_constant (means_inherited_constant) id (func_id 0) [] [])) (let same : calls_class recorder program_inherited_constant (means_inherited_constant) (Own 1) [] [] inherited_constant_0_at_6 ≡ (makes_instance (Own 1) None >>= (λ id. initializes recorder program_inherited_constant (means_inherited_constant) id (func_id 0) [] [])) inherited_constant_0_at_6 = refl in same) (then_ok (makes_instance (Own 1) None) (λ id. initializes recorder program_inherited_constant (means_inherited_constant) id (func_id 0) [] []) (id 0) inherited_constant_0_at_4 (leaf refl) (then_ok (calls_function recorder program_inherited_constant (means_inherited_constant) (func_id 0) ((ref 0) ∷ []) []) (λ x. initialized (id 0) (out-Value x.0)) (v.None, (j.Plain false)) inherited_constant_0_at_3 (as_run (inside recorder program_inherited_constant (means_inherited_constant) (func_id 0) function_inherited_constant_0 (((codes "self"), (ref 0)) ∷ ((codes "x"), (v.Int (pos 1))) ∷ [])) (let same : calls_function recorder program_inherited_constant (means_inherited_constant) (func_id 0) ((ref 0) ∷ []) [] inherited_constant_0_at_4 ≡ inside recorder program_inherited_constant (means_inherited_constant) (func_id 0) function_inherited_constant_0 (((codes "self"), (ref 0)) ∷ ((codes "x"), (v.Int (pos 1))) ∷ []) inherited_constant_0_at_4 = refl in same) (gives_same (leaves inherited_constant_0_at_4.frame ((Ok (v.None, (j.Plain false))), inherited_constant_0_at_1)) (in_frame recorder program_inherited_constant (func_id 0) function_inherited_constant_0 (((codes "self"), (ref 0)) ∷ ((codes "x"), (v.Int (pos 1))) ∷ []) (Ok (v.None, (j.Plain false))) inherited_constant_0_at_1 (then_ok (begins recorder (node 0)) _ tt (state_inherited_constant (Some (func_id 0)) (((codes "self"), (ref 0)) ∷ ((codes "x"), (v.Int (pos 1))) ∷ []) [] (object.Instance (Own 1) [] None ∷ []) 2 288 (began 10 ∷ began 11 ∷ began 12 ∷ began 13 ∷ began 14 ∷ began 15 ∷ began 16 ∷ began 17 ∷ began 0 ∷ [])) (leaf refl) (then_ok (means_inherited_constant inherited_constant_n1) _ (v.None, (j.Plain false)) inherited_constant_0_at_1 (stmt_node recorder program_inherited_constant inherited_constant_n1 287 (y.outs-Assign ((target.Attr inherited_constant_n2 (codes "x")) ∷ []) false None inherited_constant_n3) refl (then_ok (value_inherited_constant inherited_constant_n3) _ ((v.Int (pos 1)), (j.Plain true)) (state_inherited_constant (Some (func_id 0)) (((codes "self"), (ref 0)) ∷ ((codes "x"), (v.Int (pos 1))) ∷ []) [] (object.Instance (Own 1) [] None ∷ []) 2 286 (began 10 ∷ began 11 ∷ began 12 ∷ began 13 ∷ began 14 ∷ began 15 ∷ began 16 ∷ began 17 ∷ began 0 ∷ began 1 ∷ began 3 ∷ [])) (expr_node recorder program_inherited_constant inherited_constant_n3 286 (x.outs-Name (codes "x")) refl (leaf (simp views))) (then_ok (stores program_inherited_constant (value_inherited_constant) (target.Attr inherited_constant_n2 (codes "x")) (v.Int (pos 1))) _ (v.None, (j.Plain false)) inherited_constant_0_at_1 (then_ok (value_inherited_constant inherited_constant_n2) _ ((ref 0), (j.Plain true)) (state_inherited_constant (Some (func_id 0)) (((codes "self"), (ref 0)) ∷ ((codes "x"), (v.Int (pos 1))) ∷ []) [] (object.Instance (Own 1) [] None ∷ []) 2 285 inherited_constant_0_seen_1) (expr_node recorder program_inherited_constant inherited_constant_n2 285 (x.outs-Name (codes "self")) refl (leaf (simp views))) (leaf (first_of (simp views, simp tuples, search)))) (leaf refl)))) (leaf refl)))) (refl))) (leaf (first_of (simp views, simp tuples, search))))))))))) (then_ok (finds program_inherited_constant (ref 0) (codes "k")) _ (callee.Value (v.Int (pos 7))) inherited_constant_0_at_3 (leaf (first_of (simp views, simp tuples, search))) (leaf (first_of (simp views, simp tuples, search)))))) (leaf (first_of (simp views, simp tuples, search)))))) (leaf refl)))))) (simp views)))))))) (leaf refl))
+
+abbrev value_exception_init : Expr → Run Trail Finding
+value_exception_init = value_of recorder program_exception_init
+
+abbrev means_exception_init : Stmt → Run Trail Finding
+means_exception_init = means recorder program_exception_init
+
+shallow_seven : (p : Run Trail Finding) (s : State World Trail) → within_depth ((v.Int (pos 7)) ∷ []) p s ≡ p s
+shallow_seven p s = ap (λ deep. (if nat_le deep tuple_limit then p else stop (Left construct.TupleDepth)) s) (let e : depth_over ((v.Int (pos 7)) ∷ []) ≡ 1 = simp views in e)
+
+-- the call of its `__init__`
+init_called : Yields (calls_function recorder program_exception_init (means_exception_init) (func_id 0) (v.Ref (id 0) ∷ ((v.Int (pos 7)) ∷ [])) []) (state_exception_init None [] [] seven_raised 0 296 []) (Ok (v.None, (j.Plain false)), (state_exception_init None [] [] seven_raised 0 294 (began 0 ∷ began 1 ∷ [])))
+init_called =
+    as_run (inside recorder program_exception_init (means_exception_init) (func_id 0) function_exception_init_0 (((codes "self"), (v.Ref (id 0))) ∷ ((codes "n"), (v.Int (pos 7))) ∷ [])) (let same : (calls_function recorder program_exception_init (means_exception_init) (func_id 0) (v.Ref (id 0) ∷ ((v.Int (pos 7)) ∷ [])) []) (state_exception_init None [] [] seven_raised 0 296 []) ≡ inside recorder program_exception_init (means_exception_init) (func_id 0) function_exception_init_0 (((codes "self"), (v.Ref (id 0))) ∷ ((codes "n"), (v.Int (pos 7))) ∷ []) (state_exception_init None [] [] seven_raised 0 296 []) = refl in same)
+    (gives_same (leaves (state_exception_init None [] [] seven_raised 0 296 []).frame (Ok (v.None, (j.Plain false)), (state_exception_init (Some (func_id 0)) (((codes "self"), (v.Ref (id 0))) ∷ ((codes "n"), (v.Int (pos 7))) ∷ []) [] seven_raised 1 294 (began 0 ∷ began 1 ∷ [])))) (in_frame recorder program_exception_init (func_id 0) function_exception_init_0 (((codes "self"), (v.Ref (id 0))) ∷ ((codes "n"), (v.Int (pos 7))) ∷ []) (Ok (v.None, (j.Plain false))) (state_exception_init (Some (func_id 0)) (((codes "self"), (v.Ref (id 0))) ∷ ((codes "n"), (v.Int (pos 7))) ∷ []) [] seven_raised 1 294 (began 0 ∷ began 1 ∷ []))
+    (then_ok (begins recorder (node 0)) _ tt (state_exception_init (Some (func_id 0)) (((codes "self"), (v.Ref (id 0))) ∷ ((codes "n"), (v.Int (pos 7))) ∷ []) [] seven_raised 1 295 (began 0 ∷ [])) (leaf refl) (then_ok (means_exception_init exception_init_n1) _ (v.None, (j.Plain false)) (state_exception_init (Some (func_id 0)) (((codes "self"), (v.Ref (id 0))) ∷ ((codes "n"), (v.Int (pos 7))) ∷ []) [] seven_raised 1 294 (began 0 ∷ began 1 ∷ []))
+    (stmt_node recorder program_exception_init exception_init_n1 294 y.outs-Pass refl (leaf refl)) (leaf refl)))) refl)
+
+pub exception_init_0 : Yields (means_exception_init exception_init_t4) (state_exception_init None [] [] [] 0 300 []) (Ok (v.None, (j.Plain false)), (state_exception_init None (((codes "var_0"), (v.Ref (id 0))) ∷ []) [] seven_raised 0 294 (began 0 ∷ began 1 ∷ [])))
+exception_init_0 =
+    stmt_node recorder program_exception_init exception_init_t4 299 (y.outs-Assign ((target.Name (codes "var_0")) ∷ []) false None exception_init_t3) refl (then_ok (value_exception_init exception_init_t3) _ ((v.Ref (id 0)), (j.Plain true)) (state_exception_init None [] [] seven_raised 0 294 (began 0 ∷ began 1 ∷ []))
+    (expr_node recorder program_exception_init exception_init_t3 298 (x.outs-Method exception_init_t1 (codes "E") (args (exception_init_t2 ∷ []) [])) refl (then_ok (value_exception_init exception_init_t1) _ (v.ModuleRef, (j.Plain true)) (state_exception_init None [] [] [] 0 297 [])
+    (expr_node recorder program_exception_init exception_init_t1 297 (x.outs-Name (codes "module_0")) refl (leaf (simp views))) (then_ok (finds program_exception_init v.ModuleRef (codes "E")) _ (callee.Value (v.Class (Own 0))) (state_exception_init None [] [] [] 0 297 []) (leaf (first_of (simp views, simp tuples, search)))
+    (as_run (plain_arguments recorder program_exception_init (value_exception_init) (means_exception_init) (callee.Value (v.Class (Own 0))) [] (exception_init_t2 ∷ []) []) (ap (λ args. plain_arguments recorder program_exception_init (value_exception_init) (means_exception_init) (callee.Value (v.Class (Own 0))) [] args.plain args.named (state_exception_init None [] [] [] 0 297 [])) (out-roll-Args _))
+    (then_ok (value_exception_init exception_init_t2) _ ((v.Int (pos 7)), (j.Plain true)) (state_exception_init None [] [] [] 0 296 []) (expr_node recorder program_exception_init exception_init_t2 296 (x.outs-IntLit (pos 7)) refl (leaf (simp views)))
+    (as_run (instantiates recorder program_exception_init (means_exception_init) (Own 0) ((v.Int (pos 7)) ∷ []) []) (ap (λ level. calls_value recorder program_exception_init (means_exception_init) level ((v.Int (pos 7)) ∷ []) [] (state_exception_init None [] [] [] 0 296 [])) (outs-Class _))
+    (as_run (makes_instance (Own 0) (Some (measured ((v.Int (pos 7)) ∷ []))) >>= (λ id. initializes recorder program_exception_init (means_exception_init) id (func_id 0) ((v.Int (pos 7)) ∷ []) [])) (shallow_seven (makes_instance (Own 0) (Some (measured ((v.Int (pos 7)) ∷ []))) >>= (λ id. initializes recorder program_exception_init (means_exception_init) id (func_id 0) ((v.Int (pos 7)) ∷ []) [])) (state_exception_init None [] [] [] 0 296 []))
+    (then_ok (makes_instance (Own 0) (Some (measured ((v.Int (pos 7)) ∷ [])))) (λ id. initializes recorder program_exception_init means_exception_init id (func_id 0) ((v.Int (pos 7)) ∷ []) []) (id 0) (state_exception_init None [] [] seven_raised 0 296 []) (leaf refl)
+    (then_ok (calls_function recorder program_exception_init (means_exception_init) (func_id 0) (v.Ref (id 0) ∷ ((v.Int (pos 7)) ∷ [])) []) (λ x. initialized (id 0) (out-Value x.0)) (v.None, (j.Plain false)) (state_exception_init None [] [] seven_raised 0 294 (began 0 ∷ began 1 ∷ [])) init_called (leaf (simp views)))))))))))
+    (leaf refl))

@@ -1,6 +1,6 @@
 -- Calls, displays, decisions and expressions, as `Fine` claims of them.
-use Rattle.std.proofs.Common.{ℕ, ◌+◌, Bool, true, false, ◌&&◌, ◌||◌, not, List, [], ◌∷◌, ◌++◌, length, refl, ap, arith, Option, Some, None}
-use Rattle.std.specs.Prelude.{◌==◌, nat_lt, nat_le, bytes_eq, codes, slice_get}
+use Rattle.std.proofs.Common.{ℕ, ◌+◌, Bool, true, false, ◌&&◌, ◌||◌, not, List, [], ◌∷◌, ◌++◌, length, refl, ap, arith, Option, Some, None, ◌≡◌, Ok, Err}
+use Rattle.std.specs.Prelude.{◌==◌, nat_lt, nat_le, bytes_eq, codes, slice_get, zip, IsTrue, if◌then◌else◌}
 use Rattle.pyn_base.specs.declared.class.BuiltClass.{BuiltClass}
 use Rattle.pyn_base.specs.declared.class.ClassId.{ClassId}
 use Rattle.pyn_base.specs.declared.class.ClassId.TheVariants.{Built, Own}
@@ -18,11 +18,11 @@ use Rattle.py_meaning.specs.declared.object.ObjKind.TheVariants as kind
 use Rattle.py_meaning.specs.declared.value.Value.{Value, Value-F, out-Value}
 use Rattle.py_meaning.specs.declared.value.Value.TheVariants as v
 use Rattle.py_meaning.specs.Builtins.{tuple_of_parts}
-use Rattle.py_meaning.specs.Operations.{kind_of, make_list, make_dict}
-use Rattle.py_meaning.specs.Tuples.{depth_over, tuple_limit, measured}
+use Rattle.py_meaning.specs.Operations.{kind_of, make_list, make_dict, set_args}
+use Rattle.py_meaning.specs.Tuples.{depth_over, tuple_limit, measured, tuple}
 use Rattle.py_meaning.specs.declared.measured.Measured.{Measured}
-use Rattle.py_meaning.specs.Walk.{walk}
-use Rattle.py_meaning.specs.Worlds.{Attributes, Pairs, object_at}
+use Rattle.py_meaning.specs.Walk.{walk, truth}
+use Rattle.py_meaning.specs.Worlds.{Attributes, Pairs, object_at, World, sound, dicts}
 use Rattle.py_plain.specs.declared.judged.Judged.{Judged}
 use Rattle.py_plain.specs.declared.judged.Judged.TheVariants as j
 use Rattle.pyn_base.specs.declared.construct.Construct.TheVariants as construct
@@ -30,38 +30,28 @@ use Rattle.py_plain.specs.declared.run.Callee.{Callee}
 use Rattle.py_plain.specs.declared.run.Callee.TheVariants as callee
 use Rattle.py_plain.specs.Assignments.{counted, unpacks, binds_all, binds_names}
 use Rattle.py_plain.specs.BuiltNames.{called_type}
-use Rattle.py_plain.specs.Calls.{bound_arguments, call_limit, leaves, or_no_defaults, without_named, within_depth, is_filled, makes_instance, initialized, initializes_base, calls_base, super_of_instance, super_of_object, super_of, super_by, super_in, first_parameter, finds_super, block, body, inside, enters, calls_known, calls_function, initializes, instantiates_by, instantiates, calls_type, calls_class, calls_value, calls}
+use Rattle.py_plain.specs.Calls.{bound_arguments, call_limit, leaves, or_no_defaults, without_named, within_depth, is_filled, makes_instance, initialized, initializes_base, calls_base, super_of_instance, super_of_object, super_of, super_by, super_in, first_parameter, finds_super, block, body, inside, enters, calls_known, calls_function, initializes, instantiates_by, instantiates, calls_type, calls_class, calls_value, calls, with_named, with_defaults, defaulted, and_then, answer}
 use Rattle.py_plain.specs.Classes.{class_of_object, base_of_class, derives, is_exception, initializer}
 use Rattle.py_plain.specs.Decisions.{judged_chain, negates, conjunction, disjunction, conjoins, disjoins, chain, conditional, decided}
 use Rattle.py_plain.specs.Displays.{makes_list, makes_tuple, makes_dict, list_display, tuple_display, dict_display}
 use Rattle.py_plain.specs.Expressions.{named_arguments, plain_arguments, arguments, calls_meant, calls_expr, bound, value_by}
-use Rattle.py_plain.specs.Names.{is_some, function_at, builtin_meant}
+use Rattle.py_plain.specs.Names.{is_some, function_at, builtin_meant, lookup, is_bound}
 use Rattle.py_plain.specs.Nodes.{kind_of_expr}
 use Rattle.py_plain.specs.Operators.{judged_comparison}
 use Rattle.py_names.specs.Bound.{parameters}
 use Rattle.py_plain.specs.Program.{Function, Program}
-use Rattle.py_plain.specs.Runs.{Run, Finding}
-use Rattle.std.specs.Prelude.{zip, IsTrue, if◌then◌else◌}
-use Rattle.std.proofs.Common.{◌≡◌, Ok, Err}
+use Rattle.py_plain.specs.Runs.{Run, Finding, Ran, Outcome, ◌>>=◌, stop, tests}
 use Rattle.std.specs.List.{list_all}
-use Rattle.py_meaning.specs.Operations.{set_args}
-use Rattle.py_meaning.specs.SoundRuns.{Fits, AllFit}
-use Rattle.py_meaning.specs.Tuples.{tuple}
-use Rattle.py_meaning.specs.Worlds.{World, sound, dicts}
+use Rattle.py_meaning.specs.SoundRuns.{Fits, AllFit, Answers}
 use Rattle.py_meaning.proofs.Soundness.{all_weaker, both, first, second}
 use Rattle.py_meaning.proofs.SoundKinds.{SoundKind, sound_kind, sound_tuple, sound_None, sound_Bool, sound_Int, sound_Str}
 use Rattle.py_meaning.specs.Outcomes.{gives_costs}
-use Rattle.py_meaning.specs.SoundRuns.{Answers}
 use Rattle.py_meaning.specs.Steps.{costs, done, leaves as leaves_at}
 use Rattle.py_meaning.proofs.SoundWalks.{list_made, dict_made, walk_gives, pair_fits}
 use Rattle.py_meaning.proofs.SoundWrites.{set_args_sound}
-use Rattle.py_meaning.specs.Walk.{truth}
 use Rattle.py_plain.specs.declared.run.Abrupt.TheVariants.{Raised, Returned, Left}
 use Rattle.py_plain.specs.declared.state.Frame.{Frame}
 use Rattle.py_plain.specs.declared.state.State.{State}
-use Rattle.py_plain.specs.Calls.{with_named, with_defaults, defaulted, and_then, answer}
-use Rattle.py_plain.specs.Names.{lookup, is_bound}
-use Rattle.py_plain.specs.Runs.{Ran, Outcome, ◌>>=◌, stop, tests}
 use Rattle.py_plain.specs.SoundStates.{NamesFit, Widens, EndFits, FindingFits}
 use Rattle.py_plain.proofs.Fine.{Claim, Paid, Growth, On, IdFits, Anything, Fine, Steady, Same, Out, may, allowed_none, frame_widens, fine_bind, fine_at, fine_if, fine_more, fine_says, fine_end, fine_gives, fine_raises, fine_instance, fine_writes, fine_performs, fine_begins, fine_decides}
 use Rattle.py_plain.proofs.FineValues.{Counts, callee_widens, Runs, length_set, answered_id, asks_fine, aside_fine, at_fine, free, stops_fine, reads_name_fine, binds_fine, finds_above_fine, finds_fine, read_found_fine, signs_fine, operates_fine, gets_item_fine, gets_slice_fine, compares_fine, calls_builtin_fine, method_fine, passes_fine, all_widen}

@@ -1,6 +1,6 @@
 -- Assignments, turns of loops and exceptions, as `Fine` claims of them.
-use Rattle.std.proofs.Common.{ℕ, ◌+◌, Bool, true, false, List, [], ◌∷◌, refl, Option, Some, None, Ok, Err, length}
-use Rattle.std.specs.Prelude.{if◌then◌else◌, ◌==◌}
+use Rattle.std.proofs.Common.{ℕ, ◌+◌, Bool, true, false, List, [], ◌∷◌, refl, Option, Some, None, Ok, Err, length, ◌≡◌, ◌-◌, ◌++◌}
+use Rattle.std.specs.Prelude.{if◌then◌else◌, ◌==◌, take}
 use Rattle.pyn_base.specs.declared.class.BuiltClass.TheVariants.{AssertionError}
 use Rattle.pyn_base.specs.declared.class.ClassId.{ClassId}
 use Rattle.pyn_base.specs.declared.class.ClassId.TheVariants.{Built}
@@ -20,32 +20,26 @@ use Rattle.py_meaning.specs.declared.value.Value.{Value, Value-F, out-Value}
 use Rattle.py_meaning.specs.declared.value.Value.TheVariants as v
 use Rattle.py_meaning.specs.Operations.{kind_of}
 use Rattle.py_meaning.specs.Walk.{gives_new_tuples, shallow}
-use Rattle.py_meaning.specs.Worlds.{object_at}
+use Rattle.py_meaning.specs.Worlds.{object_at, World, sound, dicts}
 use Rattle.py_plain.specs.declared.judged.Judged.TheVariants as j
-use Rattle.py_plain.specs.declared.run.Abrupt.TheVariants.{Raised, Returned, Broke, Continued}
+use Rattle.py_plain.specs.declared.run.Abrupt.TheVariants.{Raised, Returned, Broke, Continued, Left, OutOfSteps}
 use Rattle.py_plain.specs.declared.run.Walk.{Walk}
 use Rattle.py_plain.specs.Assignments.{stores, stores_all, stores_to, augments_attribute, augments_item, augments_target}
 use Rattle.py_plain.specs.Classes.{class_of_object, is_exception}
-use Rattle.py_plain.specs.Exceptions.{raises_object, raises_last, last_of, reraises, handles, binds_as, unbinds_as, enters_clause, leaves_clause, after_clause, is_final, kept, raises_class, raises_instance, raises_value, raise, fails, fails_with, maybe_block, runs_clause, matched, tries_clauses, after_body, finally}
+use Rattle.py_plain.specs.Exceptions.{raises_object, raises_last, last_of, reraises, handles, binds_as, unbinds_as, enters_clause, leaves_clause, after_clause, is_final, kept, raises_class, raises_instance, raises_value, raise, fails, fails_with, maybe_block, runs_clause, matched, tries_clauses, after_body, finally, tries}
 use Rattle.py_plain.specs.Loops.{after_turn, dict_walked, element_at, size_at, changes_at, unchanged, checks, makes_element, while_turn, while_loop, for_element, for_turn, for_value}
 use Rattle.py_plain.specs.Nodes.{body_of_clause}
-use Rattle.py_plain.specs.Runs.{Outcome, Run, Finding}
+use Rattle.py_plain.specs.Runs.{Outcome, Run, Finding, pure, stop}
 use Rattle.py_plain.specs.Statements.{branches, does_by}
-use Rattle.std.proofs.Common.{◌≡◌, ◌-◌, ◌++◌}
-use Rattle.std.specs.Prelude.{take}
 use Rattle.std.specs.List.{list_all}
 use Rattle.pyn_base.specs.declared.construct.Construct.TheVariants as construct
 use Rattle.py_meaning.specs.SoundRuns.{Fits, AllFit}
-use Rattle.py_meaning.specs.Worlds.{World, sound, dicts}
 use Rattle.py_meaning.proofs.Soundness.{all_join, all_one, all_take, first, second}
 use Rattle.py_meaning.proofs.SoundKinds.{SoundKind, sound_kind, sound_None}
 use Rattle.py_plain.specs.declared.run.Abrupt.{Abrupt}
-use Rattle.py_plain.specs.declared.run.Abrupt.TheVariants.{Left, OutOfSteps}
 use Rattle.py_plain.specs.Calls.{block}
 use Rattle.py_plain.specs.Decisions.{chooses}
-use Rattle.py_plain.specs.Exceptions.{tries}
 use Rattle.py_plain.specs.Program.{Program}
-use Rattle.py_plain.specs.Runs.{pure, stop}
 use Rattle.py_plain.specs.SoundStates.{Widens, EndFits, FindingFits}
 use Rattle.py_plain.proofs.Fine.{Claim, Paid, Growth, On, Anything, Fine, may, fine_bind, fine_after, fine_at, fine_if, fine_end, fine_stop, fine_raises, fine_instance, fine_frame, fine_takes, fine_begins, fine_decides, Passes}
 use Rattle.py_plain.proofs.FineValues.{Counts, Runs, at_fine, free, stops_fine, reads_fine, binds_fine, unbinds_fine, finds_fine, read_found_fine, sets_attribute_fine, augments_fine, gets_item_fine, sets_item_fine, deletes_item_fine, passes_fine, all_widen}

@@ -21,7 +21,7 @@ use Rattle.py_meaning.specs.declared.value.Value.TheVariants as v
 use Rattle.py_meaning.specs.Arithmetic.{unary}
 use Rattle.py_meaning.specs.Builtins.{call_builtin, reading}
 use Rattle.py_meaning.specs.Methods.{Names, named, is_among, call_method, list_methods, dict_methods, text_methods, left_of_list, left_of_dict, left_of_tuple, left_of_integer, left_of_text}
-use Rattle.py_meaning.specs.Operations.{kind_of, args_of, attr_get, attr_set, make_list, make_dict}
+use Rattle.py_meaning.specs.Operations.{kind_of, args_of, attr_get, attr_set, make_list, make_dict, attribute_place}
 use Rattle.py_meaning.specs.Operators.{binary, augment, compare}
 use Rattle.py_meaning.specs.SoundRuns.{Fits, AllFit, Answers, Holds, Made, WorldSound}
 use Rattle.py_meaning.specs.Steps.{Costing, Change, aside, done, go_on as then_on}
@@ -46,7 +46,6 @@ use Rattle.py_plain.specs.Attributes.{finds_method, finds_none, bound_method, kn
 use Rattle.py_plain.specs.Builtins.{isinstance_row, text_row, calls_builtin}
 use Rattle.py_plain.specs.Classes.{is_exception, class_member}
 use Rattle.py_plain.specs.Names.{lookup, is_some, is_local, globals, function_at, builtin_meant, bound_to, without, found_local, found_class, found_global, reads_in, reads_unless, reads, reads_name, binds, unbinds}
-use Rattle.py_meaning.specs.Operations.{attribute_place}
 use Rattle.py_plain.specs.Operators.{signs, operates, augments, gets_item, sets_item, deletes_item, gets_slice, compares}
 use Rattle.py_plain.specs.Program.{Function, Program}
 use Rattle.py_plain.specs.Runs.{Run, nothing, gives, pure, stop, performs_value, asks}

@@ -414,3 +414,12 @@ state_out_of_steps_in_call function variables handled objects depth left seen = 
 -- var_8 = module_0.f()
 abbrev pub OutOfStepsInCall0 : Type 0
 OutOfStepsInCall0 = means recorder program_out_of_steps_in_call out_of_steps_in_call_t3 (state_out_of_steps_in_call None [] [] [] 0 8 []) ≡ ((Err OutOfSteps), (state_out_of_steps_in_call None [] [] [] 0 0 (began 3 ∷ began 4 ∷ began 5 ∷ began 6 ∷ began 7 ∷ [])))
+
+-- the 201st active call:
+--
+--     def f(a):
+--         return a
+--
+-- var_0 = module_0.f(1)
+abbrev pub CallDepth0 : Type 0
+CallDepth0 = means recorder program_out_of_steps_before_function out_of_steps_before_function_t4 (state_out_of_steps_before_function None [] [] [] 200 300 []) ≡ ((Err (Left construct.CallDepth)), (state_out_of_steps_before_function None [] [] [] 200 296 []))

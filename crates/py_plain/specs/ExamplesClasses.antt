@@ -1,6 +1,6 @@
 -- Worked examples of classes (3.2 and 8.8): what a statement of a test means, with its end, variables, objects, trail and steps left.
 use Rattle.py_meaning.specs.Examples.{id}
-use Rattle.py_meaning.specs.Tuples.{tuple}
+use Rattle.py_meaning.specs.Tuples.{tuple, measured}
 use Rattle.py_meaning.specs.Worlds.{World, Attributes}
 use Rattle.py_meaning.specs.declared.object.Object.TheVariants as object
 use Rattle.py_meaning.specs.declared.value.Value.TheVariants as v
@@ -703,3 +703,41 @@ state_inherited_constant function variables handled objects depth left seen = re
 -- var_8 = module_0.f()
 abbrev pub InheritedConstant0 : Type 0
 InheritedConstant0 = means recorder program_inherited_constant inherited_constant_t5 (state_inherited_constant None [] [] [] 0 300 []) ≡ ((Ok (v.None, (j.Plain false))), (state_inherited_constant None (((codes "var_8"), (tuple ((v.Int (pos 7)) ∷ (v.Int (pos 7)) ∷ []))) ∷ []) [] (object.Instance (Own 1) (((codes "x"), (v.Int (pos 1))) ∷ []) None ∷ []) 0 283 (began 10 ∷ began 11 ∷ began 12 ∷ began 13 ∷ began 14 ∷ began 15 ∷ began 16 ∷ began 17 ∷ began 0 ∷ began 1 ∷ began 3 ∷ began 2 ∷ [])))
+
+-- exception with init:
+--
+--     class E(ValueError):
+--         def __init__(self, n):
+--             pass
+--
+abbrev pub exception_init_n1 : Stmt
+exception_init_n1 = s 1 y.Pass
+
+abbrev pub exception_init_t1 : Expr
+exception_init_t1 = e 0 (x.Name (codes "module_0"))
+
+abbrev pub exception_init_t2 : Expr
+exception_init_t2 = e 0 (x.IntLit (pos 7))
+
+abbrev pub exception_init_t3 : Expr
+exception_init_t3 = e 0 (x.Method exception_init_t1 (codes "E") (args (exception_init_t2 ∷ []) []))
+
+abbrev pub exception_init_t4 : Stmt
+exception_init_t4 = s 0 (y.Assign ((target.Name (codes "var_0")) ∷ []) false None exception_init_t3)
+
+abbrev pub function_exception_init_0 : Function
+function_exception_init_0 = record { tree = (func 0 (codes "__init__") ((param (codes "self") None) ∷ (param (codes "n") None) ∷ []) (exception_init_n1 ∷ [])); owner = (Some 0); locals = ((codes "self") ∷ (codes "n") ∷ []) }
+
+abbrev pub program_exception_init : Program
+program_exception_init = record { functions = (function_exception_init_0 ∷ []); classes = (record { name = (codes "E"); base = (Built built.ValueError); methods = (((codes "__init__"), func_id 0) ∷ []); constants = [] } ∷ []); bindings = [] }
+
+abbrev pub state_exception_init : Option FuncId → Attributes → List ObjId → World → ℕ → ℕ → Trail → State World Trail
+state_exception_init function variables handled objects depth left seen = record { frame = record { function = function; variables = variables; handled = handled }; space = record { names = (((codes "E"), (v.Class (Own 0))) ∷ []); defaults = ([] ∷ []); constants = ([] ∷ []) }; objects = objects; depth = depth; left = left; seen = seen }
+
+-- What the exception is called with are its arguments, whatever its `__init__` does.
+abbrev pub seven_raised : World
+seven_raised = object.Instance (Own 0) [] (Some (measured (v.Int (pos 7) ∷ []))) ∷ []
+
+-- var_0 = module_0.E(7)
+abbrev pub ExceptionInit0 : Type 0
+ExceptionInit0 = means recorder program_exception_init exception_init_t4 (state_exception_init None [] [] [] 0 300 []) ≡ ((Ok (v.None, (j.Plain false))), (state_exception_init None (((codes "var_0"), (v.Ref (id 0))) ∷ []) [] seven_raised 0 294 (began 0 ∷ began 1 ∷ [])))

@@ -1,5 +1,5 @@
 // Worked examples of classes (3.2 and 8.8).
-ghost use Rattle.py_plain.specs.ExamplesClasses.{ClassFunction0, InitReturns0, SuperChain0, SuperOfClass0, Mro0, MissingOfClass0, SetClassAttribute0, InheritedConstant0};
+ghost use Rattle.py_plain.specs.ExamplesClasses.{ClassFunction0, InitReturns0, SuperChain0, SuperOfClass0, Mro0, MissingOfClass0, SetClassAttribute0, InheritedConstant0, ExceptionInit0};
 
 /// What the definitions say of small tests: classes (3.2 and 8.8).
 pub fn classes_by_example()
@@ -11,4 +11,5 @@ pub fn classes_by_example()
     ensures missing_of_class_0 { MissingOfClass0 }
     ensures set_class_attribute_0 { SetClassAttribute0 }
     ensures inherited_constant_0 { InheritedConstant0 }
+    ensures exception_init_0 { ExceptionInit0 }
 {}

@@ -1,4 +1,4 @@
-use Rattle.py_plain.proofs.ExamplesClasses.{class_function_0, init_returns_0, super_chain_0, super_of_class_0, mro_0, missing_of_class_0, set_class_attribute_0, inherited_constant_0}
+use Rattle.py_plain.proofs.ExamplesClasses.{exception_init_0, class_function_0, init_returns_0, super_chain_0, super_of_class_0, mro_0, missing_of_class_0, set_class_attribute_0, inherited_constant_0}
 use Rattle.py_plain.proofs.classes_examples.classes_by_example.Goals as goal
 
 pub returns-clause-class_function_0 : goal.returns-clause-class_function_0
@@ -24,3 +24,6 @@ returns-clause-set_class_attribute_0 c = set_class_attribute_0.same
 
 pub returns-clause-inherited_constant_0 : goal.returns-clause-inherited_constant_0
 returns-clause-inherited_constant_0 c = inherited_constant_0.same
+
+pub returns-clause-exception_init_0 : goal.returns-clause-exception_init_0
+returns-clause-exception_init_0 c = exception_init_0.same

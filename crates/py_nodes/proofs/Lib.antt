@@ -1,0 +1,6 @@
+mod Arguments
+mod Levels
+mod Parts
+mod Steps
+mod StmtLevels
+mod StmtParts

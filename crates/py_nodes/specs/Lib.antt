@@ -1,0 +1,4 @@
+pub mod Code
+pub mod CodeStatements
+pub mod Expressions
+pub mod Numbers

@@ -1,1 +1,4 @@
-
+pub mod Annotations
+pub mod Forms
+pub mod Separators
+pub mod Statements

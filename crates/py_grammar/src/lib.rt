@@ -7,5 +7,7 @@
 #![tactic(auto)]
 
 mod form;
+mod separator;
 
 pub use form::{Form, Header};
+pub use separator::Separator;

@@ -15,9 +15,9 @@ use Rattle.py_syntax.specs.declared.stmt.Annotation.TheVariants.{Named, NoneType
 use Rattle.py_grammar.specs.declared.separator.Separator.TheVariants.{Comma, Pipe}
 use Rattle.py_grammar.specs.Separators.{inside, last_cut, all_parts}
 
--- adjacent strings, which are one
+-- strings alone, which are one
 abbrev pub strings : List Token → Option (List ℕ)
-strings (t.Str text ∷ []) = Some text
+strings [] = Some []
 strings (t.Str text ∷ xs) = strings xs >>= λ more. Some (text ++ more)
 strings _ = None
 
@@ -35,11 +35,20 @@ line_in text = if nat_le (length text) longest_text then lone (tokens_of text).l
 
 -- `part` is an annotation in brackets, and `held` one that a string holds
 module _ (part : List Token → Option Annotation) (held : List ℕ → Option Annotation) where
+  abbrev pub quoted : List Token → Option Annotation
+  quoted xs = strings xs >>= held >>= λ x. Some (Quoted x)
+
+  -- a name, with the parts in the brackets behind it
+  abbrev pub named : List ℕ → List Token → Option Annotation
+  named n [] = Some (Named n [])
+  named n (t.Mark mark.LeftBracket ∷ xs) = inside Square xs >>= all_parts Comma part >>= λ all. Some (Named n all)
+  named n _ = None
+
   abbrev pub one : List Token → Option Annotation
+  one [] = None
   one (t.Keyword keyword.NoneLit ∷ []) = Some NoneType
-  one (t.Name n ∷ []) = Some (Named n [])
-  one (t.Name n ∷ t.Mark mark.LeftBracket ∷ xs) = inside Square xs >>= all_parts Comma part >>= λ all. Some (Named n all)
-  one xs = strings xs >>= held >>= λ x. Some (Quoted x)
+  one (t.Name n ∷ xs) = named n xs
+  one xs = quoted xs
 
   abbrev pub before_none : List Token → List Token → Option Annotation
   before_none xs (t.Keyword keyword.NoneLit ∷ []) = one xs >>= λ x. Some (OrNone x)

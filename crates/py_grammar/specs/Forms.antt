@@ -63,11 +63,18 @@ except xs = do
   bound ← as_name (back As xs)
   Some (h.Except (Some classes) bound)
 
--- a class with its base in brackets (8.8)
+-- the base in the round brackets, the first of which was opened right before
+abbrev pub base_in : List Token → Option (Option (List ℕ))
+base_in [] = Some None
+base_in xs = name xs >>= λ n. Some (Some n)
+
+abbrev pub base : List Token → Option (Option (List ℕ))
+base xs = inside Round xs >>= base_in
+
+-- a class, with a base in brackets if it has one (8.8)
 abbrev pub class : List Token → Option Header
 class (t.Name n ∷ []) = Some (h.Class n None)
-class (t.Name n ∷ t.Mark mark.LeftParen ∷ t.Mark mark.RightParen ∷ []) = Some (h.Class n None)
-class (t.Name n ∷ t.Mark mark.LeftParen ∷ t.Name base ∷ t.Mark mark.RightParen ∷ []) = Some (h.Class n (Some base))
+class (t.Name n ∷ t.Mark mark.LeftParen ∷ xs) = base xs >>= λ b. Some (h.Class n b)
 class _ = None
 
 -- the annotation of a parameter, by what is behind its name
@@ -84,12 +91,15 @@ returned _ = None
 
 module _ (line : ℕ) where
   -- by what is before `in`, and what is from there on (8.3)
-  abbrev pub for_in : List Token → List Token → Option Header
-  for_in before [] = None
-  for_in before (x ∷ xs) = do
+  abbrev pub for_by : List Token → List Token → Option Header
+  for_by before [] = None
+  for_by before (x ∷ xs) = do
     names ← some_parts Comma name before
     walked ← exprs line xs
     Some (h.For names (has Comma before) walked)
+
+  abbrev pub for : List Token → Option Header
+  for xs = for_by (front In xs) (back In xs)
 
   abbrev pub default_of : List Token → Option (Option Expr)
   default_of [] = Some None
@@ -114,8 +124,11 @@ module _ (line : ℕ) where
     Some (h.Def n params returns)
   def_by n content _ = None
 
+  abbrev pub def_with : List ℕ → List Token → Option Header
+  def_with n xs = def_by n (front Closing xs) (back Closing xs)
+
   abbrev pub def : List Token → Option Header
-  def (t.Name n ∷ t.Mark mark.LeftParen ∷ xs) = def_by n (front Closing xs) (back Closing xs)
+  def (t.Name n ∷ t.Mark mark.LeftParen ∷ xs) = def_with n xs
   def _ = None
 
   abbrev pub tested : (Expr → Header) → List Token → Option Header
@@ -137,19 +150,22 @@ module _ (line : ℕ) where
   abbrev pub compound : (List Token → Option Header) → List Token → Option Form
   compound header xs = compound_by header (front Colon xs) (back Colon xs)
 
+  abbrev pub statements : List Token → Option Form
+  statements xs = simple line xs >>= λ all. Some (Simple all)
+
   abbrev pub form : List Token → Option Form
   form (t.Keyword keyword.If ∷ xs) = compound (tested h.If) xs
   form (t.Keyword keyword.Elif ∷ xs) = compound (tested h.Elif) xs
   form (t.Keyword keyword.Else ∷ xs) = compound (alone h.Else) xs
   form (t.Keyword keyword.While ∷ xs) = compound (tested h.While) xs
-  form (t.Keyword keyword.For ∷ xs) = compound (λ ys. for_in (front In ys) (back In ys)) xs
+  form (t.Keyword keyword.For ∷ xs) = compound for xs
   form (t.Keyword keyword.Try ∷ xs) = compound (alone h.Try) xs
   form (t.Keyword keyword.Except ∷ xs) = compound except xs
   form (t.Keyword keyword.Finally ∷ xs) = compound (alone h.Finally) xs
   form (t.Keyword keyword.Def ∷ xs) = compound def xs
   form (t.Keyword keyword.Class ∷ xs) = compound class xs
   form (t.Keyword keyword.From ∷ xs) = import xs
-  form xs = simple line xs >>= λ all. Some (Simple all)
+  form xs = statements xs
 
 -- the form of a logical line, if it has one
 unfoldable pub form_of : Logical → Option Form

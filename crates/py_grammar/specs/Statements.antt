@@ -72,7 +72,7 @@ module _ (line : ℕ) where
 
   -- by what is before the last dot or bracket, that token, and what is behind it
   abbrev pub target_at : List Token → Token → List Token → Option Target
-  target_at object (t.Mark mark.Dot) (t.Name n ∷ []) = expr_at Postfix object >>= λ x. Some (to.Attr x n)
+  target_at object (t.Mark mark.Dot) xs = name xs >>= λ n. expr_at Postfix object >>= λ x. Some (to.Attr x n)
   target_at object (t.Mark mark.LeftBracket) xs = subscript object xs >>= λ p. Some (to.Index p.0 p.1)
   target_at object _ _ = None
 
@@ -82,46 +82,70 @@ module _ (line : ℕ) where
 
   -- ---- assignments and expressions alone (7.1 and 7.2)
 
-  -- by what is before the first `=` or operator with it, and what is from there on
-  abbrev pub assigned : List Token → List Token → List Token → Option StmtKind
-  assigned whole before [] = exprs whole >>= λ x. Some (s.Bare x)
-  assigned whole before (t.Mark mark.Equal ∷ xs) = do
+  -- targets, and what is behind their `=`
+  abbrev pub bound : List Token → List Token → Option StmtKind
+  bound before xs = do
     targets ← some_parts Comma target before
     value ← exprs xs
     Some (s.Assign targets (has Comma before) None value)
-  assigned whole before (x ∷ xs) = do
+
+  -- a target, an operator, and what is behind that
+  abbrev pub augmented : List Token → Token → List Token → Option StmtKind
+  augmented before x xs = do
     operator ← augmenting x
     changed ← target before
     value ← exprs xs
     Some (s.Augment changed operator value)
 
-  -- by the target, what is behind its colon up to `=`, and what is from there on
-  abbrev pub annotated : List Token → List Token → List Token → Option StmtKind
-  annotated before type (t.Mark mark.Equal ∷ xs) = do
+  -- by what is before the first `=` or operator with it, and what is from there on
+  abbrev pub unannotated_by : List Token → List Token → List Token → Option StmtKind
+  unannotated_by whole before [] = exprs whole >>= λ x. Some (s.Bare x)
+  unannotated_by whole before (t.Mark mark.Equal ∷ xs) = bound before xs
+  unannotated_by whole before (x ∷ xs) = augmented before x xs
+
+  abbrev pub unannotated : List Token → Option StmtKind
+  unannotated xs = unannotated_by xs (front Assign xs) (back Assign xs)
+
+  -- by a target, what is behind its colon up to `=`, and what is from there on
+  abbrev pub annotated_by : List Token → List Token → List Token → Option StmtKind
+  annotated_by before type [] = None
+  annotated_by before type (x ∷ xs) = do
     bound ← target before >>= unindexed
     of_type ← annotation type
     value ← exprs xs
     Some (s.Assign (bound ∷ []) false (Some of_type) value)
-  annotated before type _ = None
+
+  -- a target, and what is behind its colon
+  abbrev pub annotated : List Token → List Token → Option StmtKind
+  annotated before xs = annotated_by before (front Equal xs) (back Equal xs)
 
   -- by what is before the first colon, and what is from there on
-  abbrev pub assignment : List Token → List Token → List Token → Option StmtKind
-  assignment whole before [] = assigned whole (front Assign whole) (back Assign whole)
-  assignment whole before (x ∷ xs) = annotated before (front Equal xs) (back Equal xs)
+  abbrev pub assignment_by : List Token → List Token → List Token → Option StmtKind
+  assignment_by whole before [] = unannotated whole
+  assignment_by whole before (x ∷ xs) = annotated before xs
+
+  abbrev pub assignment : List Token → Option StmtKind
+  assignment xs = assignment_by xs (front Colon xs) (back Colon xs)
 
   -- ---- the others (7.3 to 7.10)
 
   -- by what is before the first comma, and what is from there on
-  abbrev pub asserted : List Token → List Token → Option StmtKind
-  asserted test [] = expr test >>= λ x. Some (s.Assert x None)
-  asserted test (x ∷ xs) = do
+  abbrev pub asserted_by : List Token → List Token → Option StmtKind
+  asserted_by test [] = expr test >>= λ x. Some (s.Assert x None)
+  asserted_by test (x ∷ xs) = do
     tested ← expr test
     message ← expr xs
     Some (s.Assert tested (Some message))
 
-  abbrev pub deleted : List Token → Token → List Token → Option StmtKind
-  deleted object (t.Mark mark.LeftBracket) xs = subscript object xs >>= λ p. Some (s.Del p.0 p.1)
-  deleted object _ xs = None
+  abbrev pub asserted : List Token → Option StmtKind
+  asserted xs = asserted_by (front Comma xs) (back Comma xs)
+
+  abbrev pub deleted_at : List Token → Token → List Token → Option StmtKind
+  deleted_at object (t.Mark mark.LeftBracket) xs = subscript object xs >>= λ p. Some (s.Del p.0 p.1)
+  deleted_at object _ xs = None
+
+  abbrev pub deleted : List Token → Option StmtKind
+  deleted xs = last_cut Part xs >>= λ c. deleted_at c.0 c.1 c.2
 
   abbrev pub small : List Token → Option StmtKind
   small (t.Keyword keyword.Pass ∷ xs) = alone s.Pass xs
@@ -129,9 +153,9 @@ module _ (line : ℕ) where
   small (t.Keyword keyword.Continue ∷ xs) = alone s.Continue xs
   small (t.Keyword keyword.Return ∷ xs) = maybe Listed xs >>= λ x. Some (s.Return x)
   small (t.Keyword keyword.Raise ∷ xs) = maybe Conditional xs >>= λ x. Some (s.Raise x)
-  small (t.Keyword keyword.Assert ∷ xs) = asserted (front Comma xs) (back Comma xs)
-  small (t.Keyword keyword.Del ∷ xs) = last_cut Part xs >>= λ c. deleted c.0 c.1 c.2
-  small xs = assignment xs (front Colon xs) (back Colon xs)
+  small (t.Keyword keyword.Assert ∷ xs) = asserted xs
+  small (t.Keyword keyword.Del ∷ xs) = deleted xs
+  small xs = assignment xs
 
   abbrev pub statement : List Token → Option Stmt
   statement xs = small xs >>= λ kind. Some (record { node = record { 0 = 0 }; line = line; kind = kind })

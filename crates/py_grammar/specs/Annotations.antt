@@ -33,22 +33,23 @@ longest_text = 268435456
 abbrev pub line_in : List ℕ → Option (List Token)
 line_in text = if nat_le (length text) longest_text then lone (tokens_of text).lines (tokens_of text).fault else None
 
+-- strings, by the annotation that a string holds
+abbrev pub quoted : (List ℕ → Option Annotation) → List Token → Option Annotation
+quoted held xs = strings xs >>= held >>= λ x. Some (Quoted x)
+
+-- a name, with the parts in the brackets behind it
+abbrev pub named : (List Token → Option Annotation) → List ℕ → List Token → Option Annotation
+named part n [] = Some (Named n [])
+named part n (t.Mark mark.LeftBracket ∷ xs) = inside Square xs >>= all_parts Comma part >>= λ all. Some (Named n all)
+named part n _ = None
+
 -- `part` is an annotation in brackets, and `held` one that a string holds
 module _ (part : List Token → Option Annotation) (held : List ℕ → Option Annotation) where
-  abbrev pub quoted : List Token → Option Annotation
-  quoted xs = strings xs >>= held >>= λ x. Some (Quoted x)
-
-  -- a name, with the parts in the brackets behind it
-  abbrev pub named : List ℕ → List Token → Option Annotation
-  named n [] = Some (Named n [])
-  named n (t.Mark mark.LeftBracket ∷ xs) = inside Square xs >>= all_parts Comma part >>= λ all. Some (Named n all)
-  named n _ = None
-
   abbrev pub one : List Token → Option Annotation
   one [] = None
   one (t.Keyword keyword.NoneLit ∷ []) = Some NoneType
-  one (t.Name n ∷ xs) = named n xs
-  one xs = quoted xs
+  one (t.Name n ∷ xs) = named part n xs
+  one xs = quoted held xs
 
   abbrev pub before_none : List Token → List Token → Option Annotation
   before_none xs (t.Keyword keyword.NoneLit ∷ []) = one xs >>= λ x. Some (OrNone x)

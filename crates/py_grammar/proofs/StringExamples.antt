@@ -1,4 +1,4 @@
--- What two strings hold, for the worked examples.
+-- What strings hold: two worked examples, and the empty one.
 use Rattle.std.proofs.Common.{◌≡◌, [], ◌∷◌, Some, None, refl, ap}
 use Rattle.std.specs.Prelude.{encode_utf8_all, codes}
 use Rattle.std.specs.Str.{chars, is_utf8}
@@ -32,3 +32,7 @@ faulty_line = refl
 pub faulty_held : held longest_text (codes "int$") ≡ None
 unfolding held
 faulty_held = ap (λ xs. xs >>= annotation_in (held 268435455) deepest) faulty_line
+
+pub no_line : line_in [] ≡ None
+unfolding tokens_of lines_of decoded keywords_of_2 keywords_of_3 keywords_of_4 keywords_of_5 keywords_of_6 keywords_of_7 keywords_of_8 name_token is_string_prefix string_len string_content marks mark_of spells longest piece_len pieces_of line_after open_after ends_line line_begun lines_ended name_fault number_fault blank_fault comment_fault mark_fault stray_fault string_fault fault_by chars is_utf8 encode
+no_line = refl

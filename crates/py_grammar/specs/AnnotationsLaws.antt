@@ -1,8 +1,7 @@
 -- What holds of the annotations in strings, whatever the bound on strings in one another.
-use Rattle.std.specs.Prelude.{◌≡◌, ℕ, ◌≤◌, List, Some}
-use Rattle.py_syntax.specs.declared.stmt.Annotation.{Annotation}
+use Rattle.std.specs.Prelude.{◌≡◌, ℕ, ◌≤◌, List, length, encode_utf8_all}
 use Rattle.py_grammar.specs.Annotations.{held}
 
--- an annotation that is read at a bound is read at each greater one
-abbrev pub GreaterBoundsAgree : Type 0
-GreaterBoundsAgree = (text : List ℕ) (x : Annotation) (n m : ℕ) → n ≤ m → held n text ≡ Some x → held m text ≡ Some x
+-- a bound that is no less than a string's bytes changes nothing, since each string in it is shorter
+abbrev pub BoundsAgree : Type 0
+BoundsAgree = (text : List ℕ) (n m : ℕ) → length (encode_utf8_all text) ≤ n → length (encode_utf8_all text) ≤ m → held n text ≡ held m text

@@ -2,4 +2,4 @@ use Rattle.py_grammar.proofs.HeldLaws.{agrees}
 use Rattle.py_grammar.proofs.annotation_laws.laws_of_annotations.Goals as goal
 
 pub returns : goal.returns
-returns c = record { greater_bounds_agree = agrees }
+returns c = record { bounds_agree = agrees }

@@ -31,12 +31,15 @@ abbrev pub imported : List Token → Option (List (List ℕ))
 imported (t.Mark mark.LeftParen ∷ xs) = names_inside xs
 imported xs = all_parts Comma name xs
 
-abbrev pub future : List ℕ → Option Form
-future n = if bytes_eq n (codes "annotations") then Some Future else None
+abbrev pub future_of : List ℕ → Option Form
+future_of n = if bytes_eq n (codes "annotations") then Some Future else None
+
+abbrev pub future : List Token → Option Form
+future xs = name xs >>= future_of
 
 abbrev pub import_from : List ℕ → List Token → Option Form
 import_from module' xs =
-    if bytes_eq module' (codes "__future__") then name xs >>= future
+    if bytes_eq module' (codes "__future__") then future xs
     else if bytes_eq module' (codes "typing") then (imported xs >>= λ names. Some (Typing names))
     else None
 

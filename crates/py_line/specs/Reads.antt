@@ -1,5 +1,5 @@
 -- What the functions that cut and read tokens give.
-use Rattle.std.specs.Prelude.{◌≡◌, ℕ, Bool, true, false, ◌<◌, List, [], ◌∷◌, Option, Some, None, Result, Ok, Err}
+use Rattle.std.specs.Prelude.{◌≡◌, ℕ, Bool, true, false, List, [], ◌∷◌, Option, Some, None, Result, Ok, Err}
 use Rattle.std.specs.Borrow.{Bor}
 use Rattle.py_cut.specs.Cut as cut
 use Rattle.py_expr_shape.specs.declared.fault.ExprFault.{ExprFault}

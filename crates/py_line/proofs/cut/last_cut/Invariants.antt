@@ -1,4 +1,4 @@
-use Rattle.std.proofs.Common.{◌≡◌, ◌≤◌, ◌+◌, length}
+use Rattle.std.proofs.Common.{◌≤◌, ◌+◌, length}
 use Rattle.py_line.proofs.CutLemmas.{IsFound}
 use Rattle.py_line.proofs.cut.last_cut.Given as goal
 

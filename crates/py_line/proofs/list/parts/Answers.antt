@@ -1,4 +1,4 @@
-use Rattle.std.proofs.Common.{◌∙◌, ap}
+use Rattle.std.proofs.Common.{ap}
 use Rattle.std.proofs.lemmas.Result.{err_from_is_err_and}
 use Rattle.py_grammar.specs.Separators.{parts}
 use Rattle.py_line.proofs.ListLemmas.{prepend_none, goes_on, stopped, ended, parts_next, tail_decreases}

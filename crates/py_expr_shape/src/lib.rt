@@ -1,6 +1,6 @@
 //! Reads the shape of an expression from its symbols, by cutting them outside brackets.
 //!
-//! `expression` and `expressions` give exactly the shape that `py_language` defines for the symbols, and refuse exactly
+//! `expression`, `expressions` and `primary` give exactly the shape that `py_language` defines for the symbols, and refuse exactly
 //! where that has none; out of memory is the only other answer. There is one function for each rule of the grammar, in its
 //! order: what has a separator of the rule is cut there, and what has none belongs to the next rule. Each part is read by the
 //! same functions with a limit that is one less, so calls go no deeper than an expression may be.
@@ -16,4 +16,4 @@ mod operators;
 mod read;
 
 pub use fault::ExprFault;
-pub use read::{DEEPEST, expression, expressions};
+pub use read::{DEEPEST, expression, expressions, primary};

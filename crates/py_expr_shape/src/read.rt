@@ -1,6 +1,6 @@
 // The recursion over parts, and reading all symbols of a list.
 ghost use Rattle.py_language.specs.Trees.{shape};
-ghost use Rattle.py_language.specs.TreesPlaces.{Conditional, Listed};
+ghost use Rattle.py_language.specs.TreesPlaces.{Conditional, Listed, Postfix};
 ghost use Rattle.py_expr_shape.specs.Levels.{level_of};
 ghost use Rattle.py_expr_shape.specs.Reads.{Gives, whole};
 
@@ -47,4 +47,12 @@ pub fn expressions(alloc: Global, symbols: &[Symbol]) -> Result<Boxed<Shape>, Ex
     ensures { Gives result (whole Listed symbols.now) }
 {
     shape(alloc, Level::Listed, symbols, DEEPEST)
+}
+
+/// The shape of the symbols as a primary: an atom, with groups after it.
+#[tactic(auto, unfolding(crate::specs::Reads::whole))]
+pub fn primary(alloc: Global, symbols: &[Symbol]) -> Result<Boxed<Shape>, ExprFault>
+    ensures { Gives result (whole Postfix symbols.now) }
+{
+    shape(alloc, Level::Postfix, symbols, DEEPEST)
 }

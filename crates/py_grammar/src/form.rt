@@ -4,7 +4,8 @@ use py_syntax::{Annotation, Expr, Param, Stmt};
 use pyn_base::Name;
 use sqlite_items::Items;
 
-/// What a logical line is. Every part of a form has the line's number, and node 0.
+/// What a logical line is. Statements, parameters and whole expressions have the line's number; a statement has node 0, and the
+/// nodes of each expression are numbered from 0.
 #[derive(Drop)]
 pub enum Form {
     /// Small statements.

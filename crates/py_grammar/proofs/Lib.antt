@@ -1,0 +1,4 @@
+mod HeldLaws
+mod StringExamples
+mod StringSizes
+mod TokenSizes

@@ -1,0 +1,4 @@
+mod AnnotationLemmas
+mod CutLemmas
+mod FormLemmas
+mod ListLemmas

@@ -1,0 +1,6 @@
+use Rattle.std.specs.Str.{chars}
+use Rattle.py_line.proofs.form.is_typing.Goals as goal
+
+pub returns : goal.returns
+unfolding chars
+returns c = c.is.ensures

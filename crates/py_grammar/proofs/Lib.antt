@@ -1,4 +1,1 @@
-mod HeldLaws
 mod StringExamples
-mod StringSizes
-mod TokenSizes

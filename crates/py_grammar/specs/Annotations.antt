@@ -33,47 +33,46 @@ longest_text = 268435456
 abbrev pub line_in : List ℕ → Option (List Token)
 line_in text = if nat_le (length text) longest_text then lone (tokens_of text).lines (tokens_of text).fault else None
 
--- strings, by the annotation that a string holds
-abbrev pub quoted : (List ℕ → Option Annotation) → List Token → Option Annotation
-quoted held xs = strings xs >>= held >>= λ x. Some (Quoted x)
+-- what the one line in a string's characters is
+unfoldable pub held : (List Token → Option Annotation) → List ℕ → Option Annotation
+held part text = line_in (encode_utf8_all text) >>= part
 
--- a name, with the parts in the brackets behind it
+-- strings, by the annotation that is in them
+abbrev pub quoted : (List Token → Option Annotation) → List Token → Option Annotation
+quoted part xs = strings xs >>= held part >>= λ x. Some (Quoted x)
+
+-- a name, with the parts in the brackets after it
 abbrev pub named : (List Token → Option Annotation) → List ℕ → List Token → Option Annotation
 named part n [] = Some (Named n [])
 named part n (t.Mark mark.LeftBracket ∷ xs) = inside Square xs >>= all_parts Comma part >>= λ all. Some (Named n all)
 named part n _ = None
 
--- `part` is an annotation in brackets, and `held` one that a string holds
-module _ (part : List Token → Option Annotation) (held : List ℕ → Option Annotation) where
+-- `part` is an annotation in brackets or in a string
+module _ (part : List Token → Option Annotation) where
   abbrev pub one : List Token → Option Annotation
   one [] = None
   one (t.Keyword keyword.NoneLit ∷ []) = Some NoneType
   one (t.Name n ∷ xs) = named part n xs
-  one xs = quoted held xs
+  one xs = quoted part xs
 
   abbrev pub before_none : List Token → List Token → Option Annotation
   before_none xs (t.Keyword keyword.NoneLit ∷ []) = one xs >>= λ x. Some (OrNone x)
   before_none xs _ = None
 
-  -- with `| None` behind it, or without
+  -- with `| None` after it, or without
   abbrev pub maybe_none : Option (List Token × Token × List Token) → List Token → Option Annotation
   maybe_none (Some c) xs = before_none c.0 c.2
   maybe_none None xs = one xs
 
--- An annotation with fewer brackets in one another than the number. A text has no more than 50.
-unfoldable pub annotation_in : (List ℕ → Option Annotation) → ℕ → List Token → Option Annotation
-annotation_in held zero xs = None
-annotation_in held (suc depth) xs = maybe_none (annotation_in held depth) held (last_cut Pipe xs) xs
+-- an annotation with fewer brackets and strings in one another than the number
+unfoldable pub annotation_in : ℕ → List Token → Option Annotation
+annotation_in zero xs = None
+annotation_in (suc depth) xs = maybe_none (annotation_in depth) (last_cut Pipe xs) xs
 
+-- Brackets and strings are at most 50 deep in one another, as brackets of a text are.
 abbrev pub deepest : ℕ
 deepest = 51
 
--- The annotation that a string holds, with fewer strings in one another than the number. A string in another one is
--- shorter, so a number that is greater than the string is long changes nothing.
-unfoldable pub held : ℕ → List ℕ → Option Annotation
-held zero text = None
-held (suc n) text = line_in (encode_utf8_all text) >>= annotation_in (held n) deepest
-
 -- an annotation
 abbrev pub annotation : List Token → Option Annotation
-annotation xs = annotation_in (held longest_text) deepest xs
+annotation xs = annotation_in deepest xs

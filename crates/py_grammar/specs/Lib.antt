@@ -1,5 +1,4 @@
 pub mod Annotations
-pub mod AnnotationsLaws
 pub mod Forms
 pub mod FormsExamples
 pub mod Separators

@@ -6,12 +6,10 @@
 //! where the readers above have a cursor or a stack. This layer knows nothing of names in scope or of running.
 #![tactic(auto)]
 
-mod annotation_laws;
 mod form;
 mod form_examples;
 mod separator;
 
-pub use annotation_laws::laws_of_annotations;
 pub use form::{Form, Header};
 pub use form_examples::forms_by_example;
 pub use separator::Separator;

@@ -1,7 +1,7 @@
 // Annotations (Language Reference 7.2.2 and 8.7).
 ghost use Rattle.std.specs.Prelude.{suc};
 ghost use Rattle.py_expr_shape.specs.Reads.{Gives};
-ghost use Rattle.py_grammar.specs.Annotations.{strings, line_in, annotation, annotation_in, held, quoted, named, one, before_none};
+ghost use Rattle.py_grammar.specs.Annotations.{strings, line_in, annotation, annotation_in, quoted, named, one, before_none};
 ghost use Rattle.py_line.specs.Parts.{Parts};
 
 use crate::cut::{first, inside, last_cut};
@@ -15,7 +15,7 @@ use pyn_base::{Name, Text};
 use sqlite_items::{Boxed, Items};
 use std::alloc::Global;
 
-/// One more than the number of brackets that may be open in a text.
+/// One more than the number of brackets and strings that may be in one another.
 const DEEPEST: usize = 51;
 
 /// No longer text is read, in bytes.
@@ -57,53 +57,39 @@ fn line_in(alloc: Global, text: &[u8]) -> Result<Items<Token>, ExprFault>
     Ok(line.tokens)
 }
 
-/// Reads an annotation by its parts: those in brackets, and those in strings.
+/// Reads an annotation by its parts, which are in brackets or in a string.
 #[derive(Clone, Copy)]
 struct Reader<F> {
     alloc: Global,
-    /// How many brackets may be in one another inside, and one more.
+    /// How many brackets and strings may be in one another inside, and one more.
     depth: usize,
-    /// How many strings may be in one another inside, and one more.
-    strings: usize,
     part: F,
 }
 
-impl<F: Fn(Global, &[Token], usize, usize) -> Result<Annotation, ExprFault>> Reader<F> {
-    /// An annotation in brackets.
+impl<F: Fn(Global, &[Token], usize) -> Result<Annotation, ExprFault>> Reader<F> {
     fn part(&self, tokens: &[Token]) -> Result<Annotation, ExprFault>
-        requires { Parts self.now.depth self.now.strings (F.pre self.now.part) (F.post self.now.part) }
-        ensures { Gives result (annotation_in (held self.now.strings) self.now.depth tokens.now) }
+        requires { Parts self.now.depth (F.pre self.now.part) (F.post self.now.part) }
+        ensures { Gives result (annotation_in self.now.depth tokens.now) }
     {
-        (self.part)(self.alloc, tokens, self.depth, self.strings)
-    }
-
-    /// The annotation that a string holds.
-    #[tactic(auto, unfolding(py_grammar::specs::Annotations::held))]
-    fn held(&self, text: &Text) -> Result<Annotation, ExprFault>
-        requires { Parts self.now.depth self.now.strings (F.pre self.now.part) (F.post self.now.part) }
-        ensures { Gives result (held self.now.strings text.now) }
-    {
-        if self.strings == 0 {
-            return Err(ExprFault::Refused);
-        }
-        let line = line_in(self.alloc, text.as_str().as_bytes())?;
-        (self.part)(self.alloc, line.as_slice(), DEEPEST, self.strings - 1)
+        (self.part)(self.alloc, tokens, self.depth)
     }
 
     /// An annotation in strings.
+    #[tactic(auto, unfolding(py_grammar::specs::Annotations::held))]
     fn quoted(&self, tokens: &[Token]) -> Result<Annotation, ExprFault>
-        requires { Parts self.now.depth self.now.strings (F.pre self.now.part) (F.post self.now.part) }
-        ensures { Gives result (quoted (held self.now.strings) tokens.now) }
+        requires { Parts self.now.depth (F.pre self.now.part) (F.post self.now.part) }
+        ensures { Gives result (quoted (annotation_in self.now.depth) tokens.now) }
     {
         let text = joined(self.alloc, tokens)?;
-        let inner = self.held(&text)?;
+        let line = line_in(self.alloc, text.as_str().as_bytes())?;
+        let inner = self.part(line.as_slice())?;
         Ok(Annotation::Quoted(Boxed::new(self.alloc, inner)?))
     }
 
     /// A name, with what is after it.
     fn named(&self, name: &Name, tokens: &[Token]) -> Result<Annotation, ExprFault>
-        requires { Parts self.now.depth self.now.strings (F.pre self.now.part) (F.post self.now.part) }
-        ensures { Gives result (named (annotation_in (held self.now.strings) self.now.depth) name.now tokens.now) }
+        requires { Parts self.now.depth (F.pre self.now.part) (F.post self.now.part) }
+        ensures { Gives result (named (annotation_in self.now.depth) name.now tokens.now) }
     {
         let parts = match first(tokens) {
             None => Items::new(self.alloc),
@@ -123,8 +109,8 @@ impl<F: Fn(Global, &[Token], usize, usize) -> Result<Annotation, ExprFault>> Rea
 
     /// An annotation without `| None`.
     fn one(&self, tokens: &[Token]) -> Result<Annotation, ExprFault>
-        requires { Parts self.now.depth self.now.strings (F.pre self.now.part) (F.post self.now.part) }
-        ensures { Gives result (one (annotation_in (held self.now.strings) self.now.depth) (held self.now.strings) tokens.now) }
+        requires { Parts self.now.depth (F.pre self.now.part) (F.post self.now.part) }
+        ensures { Gives result (one (annotation_in self.now.depth) tokens.now) }
     {
         let Some((token, rest)) = first(tokens) else {
             return Err(ExprFault::Refused);
@@ -141,8 +127,8 @@ impl<F: Fn(Global, &[Token], usize, usize) -> Result<Annotation, ExprFault>> Rea
 
     /// An annotation with `| None` after it, by what is before and after the bar.
     fn before_none(&self, before: &[Token], after: &[Token]) -> Result<Annotation, ExprFault>
-        requires { Parts self.now.depth self.now.strings (F.pre self.now.part) (F.post self.now.part) }
-        ensures { Gives result (before_none (annotation_in (held self.now.strings) self.now.depth) (held self.now.strings) before.now after.now) }
+        requires { Parts self.now.depth (F.pre self.now.part) (F.post self.now.part) }
+        ensures { Gives result (before_none (annotation_in self.now.depth) before.now after.now) }
     {
         let Some((Token::Keyword(Keyword::NoneLit), rest)) = first(after) else {
             return Err(ExprFault::Refused);
@@ -156,8 +142,8 @@ impl<F: Fn(Global, &[Token], usize, usize) -> Result<Annotation, ExprFault>> Rea
 
     #[tactic(auto, unfolding(py_grammar::specs::Annotations::annotation_in))]
     fn annotation(&self, tokens: &[Token]) -> Result<Annotation, ExprFault>
-        requires { Parts self.now.depth self.now.strings (F.pre self.now.part) (F.post self.now.part) }
-        ensures { Gives result (annotation_in (held self.now.strings) (suc self.now.depth) tokens.now) }
+        requires { Parts self.now.depth (F.pre self.now.part) (F.post self.now.part) }
+        ensures { Gives result (annotation_in (suc self.now.depth) tokens.now) }
     {
         match last_cut(Separator::Pipe, tokens) {
             None => self.one(tokens),
@@ -166,15 +152,10 @@ impl<F: Fn(Global, &[Token], usize, usize) -> Result<Annotation, ExprFault>> Rea
     }
 }
 
-/// An annotation, with fewer brackets in one another than the depth, and fewer strings in one another than the last number.
+/// An annotation, with fewer brackets and strings in one another than the depth.
 #[tactic(auto, unfolding(py_grammar::specs::Annotations::annotation_in))]
-fn annotation_in(
-    alloc: Global,
-    tokens: &[Token],
-    depth: usize,
-    strings: usize,
-) -> Result<Annotation, ExprFault>
-    ensures { Gives result (annotation_in (held strings) depth tokens.now) }
+fn annotation_in(alloc: Global, tokens: &[Token], depth: usize) -> Result<Annotation, ExprFault>
+    ensures { Gives result (annotation_in depth tokens.now) }
 {
     if depth == 0 {
         return Err(ExprFault::Refused);
@@ -182,7 +163,6 @@ fn annotation_in(
     let reader = Reader {
         alloc,
         depth: depth - 1,
-        strings,
         part: annotation_in,
     };
     reader.annotation(tokens)
@@ -192,5 +172,5 @@ fn annotation_in(
 pub fn annotation(alloc: Global, tokens: &[Token]) -> Result<Annotation, ExprFault>
     ensures { Gives result (annotation tokens.now) }
 {
-    annotation_in(alloc, tokens, DEEPEST, LONGEST)
+    annotation_in(alloc, tokens, DEEPEST)
 }

@@ -1,6 +1,11 @@
 pub mod Annotations
 pub mod AnnotationsLaws
+pub mod Blocks
+pub mod Compounds
 pub mod Forms
 pub mod FormsExamples
+pub mod Modules
+pub mod Refusals
+pub mod RefusalsExamples
 pub mod Separators
 pub mod Statements

@@ -1,5 +1,10 @@
 pub mod Annotations
+pub mod Blocks
+pub mod Compounds
 pub mod Forms
 pub mod FormsExamples
+pub mod Modules
+pub mod Refusals
+pub mod RefusalsExamples
 pub mod Separators
 pub mod Statements

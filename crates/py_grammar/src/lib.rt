@@ -8,8 +8,12 @@
 
 mod form;
 mod form_examples;
+mod place;
+mod refusal_examples;
 mod separator;
 
 pub use form::{Form, Header};
 pub use form_examples::forms_by_example;
+pub use place::Place;
+pub use refusal_examples::{refused_lines_by_example, refused_tokens_by_example};
 pub use separator::Separator;

@@ -1,13 +1,13 @@
 -- The arguments of a call in the order in which they were written: those that are done, and those that are left.
-use Rattle.std.proofs.Common.{◌≡◌, ◌∙◌, refl, sym, ap, ap₂, ℕ, ◌+◌, ◌<◌, ◌≤◌, Bool, true, false, nat_lt, zero, suc, List, Option, Some, None, [], ◌∷◌, ◌++◌, map, take, drop, length, get_or, append_assoc, append-nil}
+use Rattle.std.proofs.Common.{◌≡◌, ◌∙◌, refl, sym, ap, ap₂, ℕ, ◌+◌, ◌<◌, ◌≤◌, Bool, nat_lt, zero, suc, List, Option, Some, None, [], ◌∷◌, ◌++◌, map, take, drop, length, get_or, append_assoc, append-nil}
 use Rattle.std.specs.List.{prefix_len}
 use Rattle.std.proofs.lemmas.List.{drop_all}
-use Rattle.py_syntax.specs.declared.expr.Args.{Args, roll-Args, out-Args}
+use Rattle.py_syntax.specs.declared.expr.Args.{Args, roll-Args}
 use Rattle.py_syntax.specs.declared.expr.Expr.{Expr}
 use Rattle.py_language.specs.TreesNumbers.{Numbered, Given, arguments, args, given, in_order}
-use Rattle.py_nodes.specs.Expressions.{Named, Part, before, with_name, standing, part_of, args_of, args_by, expr_on}
+use Rattle.py_nodes.specs.Expressions.{Named, Part, before, with_name, standing, part_of, expr_on}
 use Rattle.py_nodes.specs.Code.{named_of, added, precedes}
-use Rattle.py_nodes.proofs.Levels.{part-out, args-out}
+use Rattle.py_nodes.proofs.Levels.{part-out}
 use Rattle.py_nodes.proofs.Steps.{rest_of}
 
 abbrev pub named_part : Bool → List ℕ × Expr → Named

@@ -1,7 +1,7 @@
 -- The numbers of a node's parts, by the kind of node.
 use Rattle.std.proofs.Common.{◌≡◌, ◌∙◌, ap, map, ℕ, Bool, List, Option}
 use Rattle.pyn_base.specs.declared.int.PyInt.{PyInt}
-use Rattle.py_syntax.specs.declared.expr.Args.{Args, Args-F, fold_out-Args, out-Args}
+use Rattle.py_syntax.specs.declared.expr.Args.{Args, fold_out-Args, out-Args}
 use Rattle.py_syntax.specs.declared.expr.Expr.{Expr, fold_out-Expr}
 use Rattle.py_syntax.specs.declared.expr.ExprKind.{ExprKind, ExprKind-F, fold_out-ExprKind, map-ExprKind, out-ExprKind}
 use Rattle.py_syntax.specs.declared.expr.ExprKind.TheVariants as e
@@ -9,8 +9,7 @@ use Rattle.py_syntax.specs.declared.expr.ExprKind.TheVariants.{outs-NoneLit, out
 use Rattle.py_syntax.specs.declared.operator.BinOp.{BinOp}
 use Rattle.py_syntax.specs.declared.operator.CmpOp.{CmpOp}
 use Rattle.py_syntax.specs.declared.operator.Sign.{Sign}
-use Rattle.py_language.specs.TreesNumbers.{Numbered}
-use Rattle.py_nodes.specs.Expressions.{OnLine, Part, Named, after, parts_by, args_by, node_by, part_of, parts_of, args_of, expr_on}
+use Rattle.py_nodes.specs.Expressions.{OnLine, Part, Named, parts_by, args_by, node_by, part_of, parts_of, args_of}
 
 -- a node with what its parts are in their places
 abbrev pub level : Bool → ExprKind-F ExprKind Args Expr → OnLine ExprKind

@@ -1,12 +1,12 @@
 -- A node from the numbers of its parts, where these are lists.
-use Rattle.std.proofs.Common.{◌≡◌, ◌∙◌, refl, sym, ap, ap₂, ℕ, Bool, List, Option, Some, None, [], ◌∷◌, map}
+use Rattle.std.proofs.Common.{◌≡◌, ◌∙◌, ap, ℕ, Bool, List, Option, Some, None, map}
 use Rattle.std.specs.Option.{option_map}
 use Rattle.py_syntax.specs.declared.expr.Args.{Args, out-Args}
 use Rattle.py_syntax.specs.declared.expr.Expr.{Expr}
 use Rattle.py_syntax.specs.declared.expr.ExprKind.{ExprKind}
 use Rattle.py_syntax.specs.declared.expr.ExprKind.TheVariants as e
 use Rattle.py_syntax.specs.declared.operator.CmpOp.{CmpOp}
-use Rattle.py_language.specs.TreesNumbers.{Numbered, Given, in_order, args}
+use Rattle.py_language.specs.TreesNumbers.{Numbered, in_order, args}
 use Rattle.py_nodes.specs.Expressions.{OnLine, Part, on, pair_on, compared_on, maybe, part_of, parts_of, args_of, expr_on}
 use Rattle.py_nodes.specs.Code.{pair_of, compared_of, series_kind}
 use Rattle.py_nodes.specs.declared.expressions.Series.{Series}

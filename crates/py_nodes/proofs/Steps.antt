@@ -1,5 +1,5 @@
 -- Parts that are numbered one after another: those that are done, and those that are left.
-use Rattle.std.proofs.Common.{◌≡◌, ◌∙◌, refl, sym, ap, ℕ, ◌+◌, ◌<◌, ◌≤◌, List, [], ◌∷◌, ◌++◌, map, length, drop, get_or, take, min, ◌-◌, append_assoc, append-nil, add-one, arith, suc, Bool, true, false, drop-drop}
+use Rattle.std.proofs.Common.{◌≡◌, ◌∙◌, refl, sym, ap, ℕ, ◌+◌, ◌<◌, ◌≤◌, List, [], ◌∷◌, ◌++◌, map, length, drop, get_or, take, min, ◌-◌, append_assoc, append-nil, add-one, arith, Bool, true, false, drop-drop}
 use Rattle.std.proofs.Math.Nat.{min-eq_left}
 use Rattle.std.specs.List.{prefix_len}
 use Rattle.std.proofs.Math.Seq.{drop-cons, take-length}

@@ -1,5 +1,5 @@
 -- A statement from the numbers of its parts, where these are lists.
-use Rattle.std.proofs.Common.{◌≡◌, ◌∙◌, refl, ap, ℕ, Bool, List, Option, Some, None, map}
+use Rattle.std.proofs.Common.{◌≡◌, ◌∙◌, ap, ℕ, Bool, List, Option, Some, None, map}
 use Rattle.py_syntax.specs.declared.expr.Expr.{Expr}
 use Rattle.py_syntax.specs.declared.stmt.Clause.{Clause}
 use Rattle.py_syntax.specs.declared.stmt.Stmt.{Stmt}

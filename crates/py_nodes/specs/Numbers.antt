@@ -1,7 +1,7 @@
 -- The numbers of a module's nodes: every function, statement, except clause and expression of a function's body is a node. They are
 -- numbered from 0 in the order of reading, a node before its parts. A target is no node, and its parts are. What stands outside of
 -- functions' bodies isn't counted, and has the number 0.
-use Rattle.std.specs.Prelude.{ℕ, suc, Bool, true, false, List, [], ◌∷◌, map, Option, Some, None}
+use Rattle.std.specs.Prelude.{suc, Bool, true, false, List, map, Option}
 use Rattle.std.specs.Option.{option_map}
 use Rattle.py_syntax.specs.declared.expr.Expr.{Expr}
 use Rattle.py_syntax.specs.declared.module.Class.{Class}

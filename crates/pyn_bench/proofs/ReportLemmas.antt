@@ -1,8 +1,6 @@
 -- A count at its end, and what is said behind what was said before.
 use Rattle.std.proofs.Common.{◌≡◌, ◌∙◌, ap, refl, ℕ, ◌+◌, ◌^◌, ◌<◌, List, [], ◌∷◌, length, Option, Some, None, Result, Ok, Err, IfSome, OnOk, encode_utf8_all, arith}
 use Rattle.py_language.specs.declared.token.Logical.{Logical}
-use Rattle.py_language.specs.declared.token.Tokens.{Tokens}
-use Rattle.py_language.specs.Tokens.{tokens_of}
 use Rattle.pyn_base.specs.declared.desk.DeskFail.{DeskFail}
 use Rattle.pyn_base.specs.Desk.{append, failure_of}
 use Rattle.pyn_base.specs.Files.{Files, content}
@@ -25,7 +23,3 @@ pub says_report : (reading : Reading) (result : Result (Unit {0}) DeskFail) (o :
     → OnOk result (IfSome o (λ files. s2 ≡ append s0 (said_of reading (content files name))))
 says_report reading (Ok x) o s0 s1 s2 name bytes said a b c d = said_by reading o s0 s1 s2 name bytes said a b c (d refl)
 says_report reading (Err e) o s0 s1 s2 name bytes said a b c d = tt
-
-pub said_is : (reading : Reading) (all : Tokens) (lines : List Logical) (bytes text : List ℕ) → all ≡ tokens_of bytes → lines ≡ all.lines → text ≡ report reading lines → encode_utf8_all text ≡ said_of reading bytes
-said_is reading all lines bytes text e f t =
-    ap encode_utf8_all (t ∙ (ap (report reading) f ∙ ap (λ (x : Tokens). report reading x.lines) e))

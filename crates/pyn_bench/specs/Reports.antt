@@ -1,12 +1,19 @@
 -- What the program prints.
-use Rattle.std.specs.Prelude.{ℕ, ◌+◌, ◌-◌, ◌^◌, min, Bool, true, false, List, [], ◌∷◌, ◌++◌, length, codes, decimal, encode_utf8_all}
+use Rattle.std.specs.Prelude.{ℕ, ◌+◌, ◌-◌, ◌^◌, nat_le, min, Bool, true, false, List, [], ◌∷◌, ◌++◌, length, codes, decimal, encode_utf8_all, Result, Ok, Err}
 use Rattle.std.specs.Option.{is_some}
 use Rattle.py_language.specs.declared.token.Logical.{Logical}
 use Rattle.py_language.specs.declared.token.Token.{Token}
 use Rattle.py_language.specs.Tokens.{tokens_of}
 use Rattle.py_language.specs.Trees.{tree_of}
+use Rattle.py_syntax.specs.declared.module.Module.{Module}
+use Rattle.py_syntax.specs.declared.refusal.Refusal.{Refusal}
+use Rattle.py_syntax.specs.declared.refusal.Refusal.TheVariants as refusal
+use Rattle.py_parser.specs.Parsed.{parsed}
+use Rattle.pyn_base.specs.Construct.{text_of}
+use Rattle.pyn_base.specs.declared.construct.Construct.{Construct}
+use Rattle.pyn_base.specs.declared.construct.Construct.TheVariants.{TooLong}
 use Rattle.pyn_bench.specs.declared.reports.Reading.{Reading}
-use Rattle.pyn_bench.specs.declared.reports.Reading.TheVariants.{Tokens, Expression}
+use Rattle.pyn_bench.specs.declared.reports.Reading.TheVariants as reading
 
 -- how many tokens logical lines have
 abbrev pub tokens_in : List Logical → ℕ
@@ -35,11 +42,28 @@ answer false = codes "\nrefused\n"
 abbrev pub expression_report : List Token → List ℕ
 expression_report tokens = codes "tokens " ++ decimal (length tokens) ++ answer (is_some (tree_of tokens))
 
--- what is said of a text's logical lines
-abbrev pub report : Reading → List Logical → List ℕ
-report Tokens lines = counts_report lines
-report Expression lines = expression_report (first_line lines)
+abbrev pub read_text : ℕ → List ℕ
+read_text nodes = codes "read\nnodes " ++ decimal nodes ++ codes "\n"
+
+abbrev pub refused_text : ℕ → Construct → List ℕ
+refused_text line construct = codes "refused line " ++ decimal line ++ codes " " ++ text_of construct ++ codes "\n"
+
+-- no definition gives the refusal for want of memory
+abbrev pub answer_text : Result Module Refusal → List ℕ
+answer_text (Ok m) = read_text m.nodes
+answer_text (Err (refusal.Refused line construct)) = refused_text line construct
+answer_text (Err refusal.Memory) = []
+
+-- a text of more than 262,144 bytes is no module
+abbrev pub module_report : List ℕ → List ℕ
+module_report text = if nat_le (length text) 262144 then answer_text (parsed text) else refused_text 1 TooLong
+
+-- what is said of a text
+abbrev pub report : Reading → List ℕ → List ℕ
+report reading.Tokens text = counts_report (tokens_of text).lines
+report reading.Expression text = expression_report (first_line (tokens_of text).lines)
+report reading.Module text = module_report text
 
 -- the bytes that are said of a text
 abbrev pub said_of : Reading → List ℕ → List ℕ
-said_of reading text = encode_utf8_all (report reading (tokens_of text).lines)
+said_of reading text = encode_utf8_all (report reading text)

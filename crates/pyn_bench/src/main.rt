@@ -2,10 +2,11 @@
 //!
 //! Its two words are what to read the text as, and the file. `tokens` cuts the text with `py_lexer`, and prints the counts
 //! of its logical lines and of its tokens, as `lines N` and `tokens N`. `expression` reads the first logical line with
-//! `py_expr`, and prints its count of tokens as `tokens N`, and then `read` or `refused`. `bench/tokens.sh` and
-//! `bench/expressions.sh` run it.
+//! `py_expr`, and prints its count of tokens as `tokens N`, and then `read` or `refused`. `module` reads the text with
+//! `py_parser`, and prints `read` and then the count of its nodes as `nodes N`, or `refused line N` and the construct.
+//! `bench/tokens.sh`, `bench/expressions.sh` and `bench/modules.sh` run it.
 //!
-//! It stands on `py_expr`, `py_lexer` and `pyn_base`, and nothing stands on it.
+//! It stands on `py_parser`, `py_expr`, `py_lexer` and `pyn_base`, and nothing stands on it.
 #![tactic(auto)]
 
 ghost use Rattle.std.specs.Prelude.{◌≡◌, chars, IfSome, OnOk};
@@ -13,9 +14,9 @@ ghost use Rattle.pyn_base.specs.Desk.{append};
 ghost use Rattle.pyn_base.specs.Files.{content};
 ghost use Rattle.pyn_bench.specs.Reports.{said_of};
 
+mod modules;
 mod reports;
 
-use py_lexer::tokens;
 use pyn_base::{Desk, DeskFail, RealDesk};
 pub use reports::Reading;
 use reports::report;
@@ -32,8 +33,7 @@ fn run<D: Desk>(alloc: Global, desk: &mut D, reading: Reading, name: &str) -> Re
         (λ files. (D.state desk.new).said ≡ append (D.state desk.old).said (said_of reading (content files (chars name.now))))) }
 {
     let bytes = desk.read(alloc, name, LONGEST)?;
-    let all = tokens(alloc, bytes.as_slice())?;
-    let text = report(alloc, reading, all.lines.as_slice())?;
+    let text = report(alloc, reading, bytes.as_slice())?;
     desk.say(alloc, text.as_str().as_bytes())
 }
 
@@ -41,6 +41,7 @@ fn reading_of(word: &str) -> Option<Reading> {
     match word {
         "tokens" => Some(Reading::Tokens),
         "expression" => Some(Reading::Expression),
+        "module" => Some(Reading::Module),
         _ => None,
     }
 }

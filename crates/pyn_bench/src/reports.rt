@@ -1,11 +1,12 @@
-// What is said of a text's logical lines.
+// What is said of a text, by what it is read as.
 ghost use Rattle.std.specs.Prelude.{◌≡◌, length, IfOk};
 ghost use Rattle.std.specs.Option.{is_some};
 ghost use Rattle.py_language.specs.Trees.{tree_of};
 ghost use Rattle.pyn_bench.specs.Reports.{counted, tokens_in, counts_report, first_line, expression_report, report};
 
+use crate::modules::module_report;
 use py_expr::{ExprFault, read_expr};
-use py_lexer::{Logical, Token};
+use py_lexer::{Logical, Token, tokens};
 use pyn_base::{Memory, Text};
 use std::alloc::Global;
 
@@ -16,6 +17,8 @@ pub enum Reading {
     Tokens,
     /// The first logical line is read as one expression.
     Expression,
+    /// The whole text is read as a module.
+    Module,
 }
 
 fn token_count(lines: &[Logical]) -> u64
@@ -77,12 +80,15 @@ fn expression_report(alloc: Global, tokens: &[Token]) -> Result<Text, Memory>
     Ok(text)
 }
 
-/// What is said of logical lines.
-pub fn report(alloc: Global, reading: Reading, lines: &[Logical]) -> Result<Text, Memory>
-    ensures { IfOk result (λ t. t ≡ report reading lines.now) }
+/// What is said of a text.
+pub fn report(alloc: Global, reading: Reading, text: &[u8]) -> Result<Text, Memory>
+    ensures { IfOk result (λ t. t ≡ report reading text.now) }
 {
     match reading {
-        Reading::Tokens => counts_report(alloc, lines),
-        Reading::Expression => expression_report(alloc, first_line(lines)),
+        Reading::Tokens => counts_report(alloc, tokens(alloc, text)?.lines.as_slice()),
+        Reading::Expression => {
+            expression_report(alloc, first_line(tokens(alloc, text)?.lines.as_slice()))
+        }
+        Reading::Module => module_report(alloc, text),
     }
 }

@@ -9,3 +9,4 @@ pub mod TokenSpelling
 pub mod LineSpelling
 pub mod RowSpelling
 pub mod BracketSpelling
+pub mod Soundness

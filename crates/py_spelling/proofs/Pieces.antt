@@ -9,7 +9,7 @@ quotes_some : (q : ℕ) (l : Bool) → (k : ℕ) × (length (quotes q l) ≡ suc
 quotes_some q true = (2, refl)
 quotes_some q false = (0, refl)
 
-piece_some : (c : ℕ) (cs : List ℕ) → (k : ℕ) × (piece_len c cs ≡ suc k)
+pub piece_some : (c : ℕ) (cs : List ℕ) → (k : ℕ) × (piece_len c cs ≡ suc k)
 unfolding piece_len string_len
 piece_some c cs = some_by (is_quote c) (closing c (is_tripled c cs) false (drop (quotes_len c cs - 1) cs)) (longest (c ∷ cs))
   where

@@ -85,7 +85,7 @@ pub record Spelt (x : Token) : Type 0 where
 
 -- ---- names and keywords
 
-letter_spells : (c : ℕ) (x : List ℕ) → is_letter c ≡ true → spells (c ∷ x) ≡ list_all is_word x
+pub letter_spells : (c : ℕ) (x : List ℕ) → is_letter c ≡ true → spells (c ∷ x) ≡ list_all is_word x
 letter_spells c x e =
     let lt = letter_low c e in
     let d : is_digit c ≡ false = exclusive is_letter is_digit refl c lt e in

@@ -262,3 +262,10 @@ RowsReadBack = (rs : List (ℕ × Row)) → are_rows rs ≡ true → tokens_of (
 -- only brackets open and close
 abbrev pub OnlyBracketsOpen : Type 0
 OnlyBracketsOpen = (x : Token) → is_sound x ≡ true → is_bracket x ≡ false → OpensNone (spelled x)
+
+abbrev pub has_sound_tokens : Logical → Bool
+has_sound_tokens l = list_all is_sound l.tokens
+
+-- each token of a text is sound
+abbrev pub AllTokensAreSound : Type 0
+AllTokensAreSound = (text : List ℕ) → list_all has_sound_tokens (tokens_of text).lines ≡ true

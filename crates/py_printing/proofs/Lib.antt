@@ -16,3 +16,6 @@ pub mod TextLaw
 pub mod Unnumbering
 pub mod Numbers
 pub mod ExprLaw
+pub mod CleanForms
+pub mod CleanRules
+pub mod CleanSymbols

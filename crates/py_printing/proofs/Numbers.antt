@@ -31,7 +31,7 @@ top x l n eq = ap (λ (r : Expr × ℕ). unnumbered r.0) eq ∙ expr_is (level l
 
 -- ---- lists
 
-abbrev AllIs : List Shape → List Shape → Type 0
+abbrev pub AllIs : List Shape → List Shape → Type 0
 AllIs [] [] = Unit {0}
 AllIs (x ∷ xs) (y ∷ ys) = Is x y × AllIs xs ys
 AllIs _ _ = ⊥
@@ -42,7 +42,7 @@ list_is [] (y ∷ ys) h n = absurd h
 list_is (x ∷ xs) [] h n = absurd h
 list_is (x ∷ xs) (y ∷ ys) h n = ap (λ z. z ∷ map unnumbered (in_order (map numbered xs) (numbered x n).1).0) (h.0 n) ∙ ap (λ zs. y ∷ zs) (list_is xs ys h.1 (numbered x n).1)
 
-abbrev EntriesAre : List (Shape × Shape) → List (Shape × Shape) → Type 0
+abbrev pub EntriesAre : List (Shape × Shape) → List (Shape × Shape) → Type 0
 EntriesAre [] [] = Unit {0}
 EntriesAre (x ∷ xs) (y ∷ ys) = (Is x.0 y.0 × Is x.1 y.1) × EntriesAre xs ys
 EntriesAre _ _ = ⊥
@@ -64,7 +64,7 @@ entries_are (x ∷ xs) (y ∷ ys) h n =
     ∙ ap (λ z. (y.0, z) ∷ bare_entries (numbered_entries xs o).0) (h.0.1 m)
     ∙ ap (λ zs. (y.0, y.1) ∷ zs) (entries_are xs ys h.1 o)
 
-abbrev ComparedAre : List (CmpOp × Shape) → List (CmpOp × Shape) → Type 0
+abbrev pub ComparedAre : List (CmpOp × Shape) → List (CmpOp × Shape) → Type 0
 ComparedAre [] [] = Unit {0}
 ComparedAre (x ∷ xs) (y ∷ ys) = ((x.0 ≡ y.0) × Is x.1 y.1) × ComparedAre xs ys
 ComparedAre _ _ = ⊥
@@ -87,20 +87,20 @@ compared_are (x ∷ xs) (y ∷ ys) h n =
 
 -- ---- arguments
 
-abbrev plain_ones : Given → List Shape
+abbrev pub plain_ones : Given → List Shape
 plain_ones [] = []
 plain_ones ((None, x) ∷ xs) = x ∷ plain_ones xs
 plain_ones ((Some n, x) ∷ xs) = plain_ones xs
 
-abbrev named_ones : Given → List (List ℕ × Shape)
+abbrev pub named_ones : Given → List (List ℕ × Shape)
 named_ones [] = []
 named_ones ((None, x) ∷ xs) = named_ones xs
 named_ones ((Some n, x) ∷ xs) = (n, x) ∷ named_ones xs
 
-abbrev sorted : Given → Given
+abbrev pub sorted : Given → Given
 sorted xs = unnamed (plain_ones xs) ++ named (named_ones xs)
 
-abbrev ArgsAre : Given → Given → Type 0
+abbrev pub ArgsAre : Given → Given → Type 0
 ArgsAre [] [] = Unit {0}
 ArgsAre (x ∷ xs) (y ∷ ys) = ((x.0 ≡ y.0) × Is x.1 y.1) × ArgsAre xs ys
 ArgsAre _ _ = ⊥
@@ -267,40 +267,40 @@ module _ (Q R : Shape → Type 0) (ih : (x : Shape) → Q x → Sorts R x) where
 
 -- ---- each form
 
-atom_is : (v : Atom) → Is (e.Atom v) (e.Atom v)
+pub atom_is : (v : Atom) → Is (e.Atom v) (e.Atom v)
 atom_is a.NoneLit n = top (e.Atom a.NoneLit) (Shape-F.Atom a.NoneLit) n (numbered-Atom a.NoneLit n) ∙ of-NoneLit
 atom_is (a.BoolLit b) n = top (e.Atom (a.BoolLit b)) (Shape-F.Atom (a.BoolLit b)) n (numbered-Atom (a.BoolLit b) n) ∙ of-BoolLit b
 atom_is (a.IntLit i) n = top (e.Atom (a.IntLit i)) (Shape-F.Atom (a.IntLit i)) n (numbered-Atom (a.IntLit i) n) ∙ of-IntLit i
 atom_is (a.StrLit x) n = top (e.Atom (a.StrLit x)) (Shape-F.Atom (a.StrLit x)) n (numbered-Atom (a.StrLit x) n) ∙ of-StrLit x
 atom_is (a.Name m) n = top (e.Atom (a.Name m)) (Shape-F.Atom (a.Name m)) n (numbered-Atom (a.Name m) n) ∙ of-Name m
 
-list_of : (xs ys : List Shape) → AllIs xs ys → Is (e.ListLit xs) (e.ListLit ys)
+pub list_of : (xs ys : List Shape) → AllIs xs ys → Is (e.ListLit xs) (e.ListLit ys)
 list_of xs ys h n = top (e.ListLit xs) (Shape-F.ListLit xs) n (numbered-ListLit xs n) ∙ of-ListLit (in_order (map numbered xs) (suc n)).0 ∙ ap e.ListLit (list_is xs ys h (suc n))
 
-tuple_of : (xs ys : List Shape) → AllIs xs ys → Is (e.TupleLit xs) (e.TupleLit ys)
+pub tuple_of : (xs ys : List Shape) → AllIs xs ys → Is (e.TupleLit xs) (e.TupleLit ys)
 tuple_of xs ys h n = top (e.TupleLit xs) (Shape-F.TupleLit xs) n (numbered-TupleLit xs n) ∙ of-TupleLit (in_order (map numbered xs) (suc n)).0 ∙ ap e.TupleLit (list_is xs ys h (suc n))
 
-and_of : (xs ys : List Shape) → AllIs xs ys → Is (e.And xs) (e.And ys)
+pub and_of : (xs ys : List Shape) → AllIs xs ys → Is (e.And xs) (e.And ys)
 and_of xs ys h n = top (e.And xs) (Shape-F.And xs) n (numbered-And xs n) ∙ of-And (in_order (map numbered xs) (suc n)).0 ∙ ap e.And (list_is xs ys h (suc n))
 
-or_of : (xs ys : List Shape) → AllIs xs ys → Is (e.Or xs) (e.Or ys)
+pub or_of : (xs ys : List Shape) → AllIs xs ys → Is (e.Or xs) (e.Or ys)
 or_of xs ys h n = top (e.Or xs) (Shape-F.Or xs) n (numbered-Or xs n) ∙ of-Or (in_order (map numbered xs) (suc n)).0 ∙ ap e.Or (list_is xs ys h (suc n))
 
-dict_of : (xs ys : List (Shape × Shape)) → EntriesAre xs ys → Is (e.DictLit xs) (e.DictLit ys)
+pub dict_of : (xs ys : List (Shape × Shape)) → EntriesAre xs ys → Is (e.DictLit xs) (e.DictLit ys)
 dict_of xs ys h n = top (e.DictLit xs) (Shape-F.DictLit xs) n (numbered-DictLit xs n) ∙ of-DictLit (numbered_entries xs (suc n)).0 ∙ ap e.DictLit (entries_are xs ys h (suc n))
 
-attr_of : (x y : Shape) (m : List ℕ) → Is x y → Is (e.Attr x m) (e.Attr y m)
+pub attr_of : (x y : Shape) (m : List ℕ) → Is x y → Is (e.Attr x m) (e.Attr y m)
 attr_of x y m h n = top (e.Attr x m) (Shape-F.Attr x m) n (numbered-Attr x m n) ∙ of-Attr (numbered x (suc n)).0 m ∙ ap (λ z. e.Attr z m) (h (suc n))
 
-index_of : (x y i j : Shape) → Is x y → Is i j → Is (e.Index x i) (e.Index y j)
+pub index_of : (x y i j : Shape) → Is x y → Is i j → Is (e.Index x i) (e.Index y j)
 index_of x y i j h g n =
     let m = (numbered x (suc n)).1 in
     top (e.Index x i) (Shape-F.Index x i) n (numbered-Index x i n) ∙ of-Index (numbered x (suc n)).0 (numbered i m).0 ∙ ap (λ z. e.Index z (unnumbered (numbered i m).0)) (h (suc n)) ∙ ap (e.Index y) (g m)
 
-abbrev BoundIs : Option Shape → Option Shape → Type 0
+abbrev pub BoundIs : Option Shape → Option Shape → Type 0
 BoundIs o p = (n : ℕ) → option_map unnumbered (num.bound (option_map numbered o) n).0 ≡ p
 
-slice_of : (x y : Shape) (low low' high high' : Option Shape) → Is x y → BoundIs low low' → BoundIs high high' → Is (e.Slice x low high) (e.Slice y low' high')
+pub slice_of : (x y : Shape) (low low' high high' : Option Shape) → Is x y → BoundIs low low' → BoundIs high high' → Is (e.Slice x low high) (e.Slice y low' high')
 slice_of x y low low' high high' h f g n = slice_by low high f g
   where
     m : ℕ
@@ -315,40 +315,40 @@ slice_of x y low low' high high' h f g n = slice_by low high f g
     slice_by None (Some b) f g = top (e.Slice x None (Some b)) (Shape-F.Slice x None (Some b)) n (numbered-Slice x None (Some b) n) ∙ joined None (Some b) f g None (Some (numbered b m).0) m (f m) (g m)
     slice_by (Some a) (Some b) f g = top (e.Slice x (Some a) (Some b)) (Shape-F.Slice x (Some a) (Some b)) n (numbered-Slice x (Some a) (Some b) n) ∙ joined (Some a) (Some b) f g (Some (numbered a m).0) (Some (numbered b (numbered a m).1).0) m (f m) (g (numbered a m).1)
 
-call_of : (x y : Shape) (xs ys : Given) → Is x y → ArgsAre xs ys → Is (e.Call x xs) (e.Call y (sorted ys))
+pub call_of : (x y : Shape) (xs ys : Given) → Is x y → ArgsAre xs ys → Is (e.Call x xs) (e.Call y (sorted ys))
 call_of x y xs ys h g n =
     let m = (numbered x (suc n)).1 in
     let given = (numbered_args xs m).0 in
     top (e.Call x xs) (Shape-F.Call x xs) n (numbered-Call x xs n) ∙ of-Call (numbered x (suc n)).0 (num.args given) ∙ ap (λ z. e.Call z (of_args (num.args given))) (h (suc n)) ∙ ap (e.Call y) (given_shape given ys (args_are xs ys g m))
 
-method_of : (x y : Shape) (l : List ℕ) (xs ys : Given) → Is x y → ArgsAre xs ys → Is (e.Method x l xs) (e.Method y l (sorted ys))
+pub method_of : (x y : Shape) (l : List ℕ) (xs ys : Given) → Is x y → ArgsAre xs ys → Is (e.Method x l xs) (e.Method y l (sorted ys))
 method_of x y l xs ys h g n =
     let m = (numbered x (suc n)).1 in
     let given = (numbered_args xs m).0 in
     top (e.Method x l xs) (Shape-F.Method x l xs) n (numbered-Method x l xs n) ∙ of-Method (numbered x (suc n)).0 l (num.args given) ∙ ap (λ z. e.Method z l (of_args (num.args given))) (h (suc n)) ∙ ap (e.Method y l) (given_shape given ys (args_are xs ys g m))
 
-super_of : (l : List ℕ) (xs ys : Given) → ArgsAre xs ys → Is (e.Super l xs) (e.Super l (sorted ys))
+pub super_of : (l : List ℕ) (xs ys : Given) → ArgsAre xs ys → Is (e.Super l xs) (e.Super l (sorted ys))
 super_of l xs ys g n =
     let given = (numbered_args xs (suc n)).0 in
     top (e.Super l xs) (Shape-F.Super l xs) n (numbered-Super l xs n) ∙ of-Super l (num.args given) ∙ ap (e.Super l) (given_shape given ys (args_are xs ys g (suc n)))
 
-unary_of : (g : Sign) (x y : Shape) → Is x y → Is (e.Unary g x) (e.Unary g y)
+pub unary_of : (g : Sign) (x y : Shape) → Is x y → Is (e.Unary g x) (e.Unary g y)
 unary_of g x y h n = top (e.Unary g x) (Shape-F.Unary g x) n (numbered-Unary g x n) ∙ of-Unary g (numbered x (suc n)).0 ∙ ap (e.Unary g) (h (suc n))
 
-not_of : (x y : Shape) → Is x y → Is (e.Not x) (e.Not y)
+pub not_of : (x y : Shape) → Is x y → Is (e.Not x) (e.Not y)
 not_of x y h n = top (e.Not x) (Shape-F.Not x) n (numbered-Not x n) ∙ of-Not (numbered x (suc n)).0 ∙ ap e.Not (h (suc n))
 
-binary_of : (op : BinOp) (x y u v : Shape) → Is x y → Is u v → Is (e.Binary op x u) (e.Binary op y v)
+pub binary_of : (op : BinOp) (x y u v : Shape) → Is x y → Is u v → Is (e.Binary op x u) (e.Binary op y v)
 binary_of op x y u v h g n =
     let m = (numbered x (suc n)).1 in
     top (e.Binary op x u) (Shape-F.Binary op x u) n (numbered-Binary op x u n) ∙ of-Binary op (numbered x (suc n)).0 (numbered u m).0 ∙ ap (λ z. e.Binary op z (unnumbered (numbered u m).0)) (h (suc n)) ∙ ap (e.Binary op y) (g m)
 
-compare_of : (x y : Shape) (xs ys : List (CmpOp × Shape)) → Is x y → ComparedAre xs ys → Is (e.Compare x xs) (e.Compare y ys)
+pub compare_of : (x y : Shape) (xs ys : List (CmpOp × Shape)) → Is x y → ComparedAre xs ys → Is (e.Compare x xs) (e.Compare y ys)
 compare_of x y xs ys h g n =
     let m = (numbered x (suc n)).1 in
     top (e.Compare x xs) (Shape-F.Compare x xs) n (numbered-Compare x xs n) ∙ of-Compare (numbered x (suc n)).0 (numbered_compared xs m).0 ∙ ap (λ z. e.Compare z (bare_compared (numbered_compared xs m).0)) (h (suc n)) ∙ ap (e.Compare y) (compared_are xs ys g m)
 
-cond_of : (x y u v w z : Shape) → Is x y → Is u v → Is w z → Is (e.Cond x u w) (e.Cond y v z)
+pub cond_of : (x y u v w z : Shape) → Is x y → Is u v → Is w z → Is (e.Cond x u w) (e.Cond y v z)
 cond_of x y u v w z h g f n =
     let m = (numbered x (suc n)).1 in
     let l = (numbered u m).1 in

@@ -69,3 +69,13 @@ abbrev pub ExpressionsReadBack : Type 0
 ExpressionsReadBack = (tight : Token → Token → Bool) (l : Level) (ts : List Token) (x : Expr) → tree_at l ts ≡ Some x → list_all is_sound (expr_tokens l x) ≡ true
     → (tokens_of (line_text tight (expr_tokens l x)) ≡ record { lines = record { line = 1; column = 0; tokens = expr_tokens l x } ∷ []; fault = None })
     × ((y : Expr) × ((tree_at l (expr_tokens l x) ≡ Some y) × (unnumbered y ≡ unnumbered x)))
+
+-- a tree of sound tokens is printed by sound tokens
+abbrev pub SoundTreesAreSound : Type 0
+SoundTreesAreSound = (l : Level) (ts : List Token) (x : Expr) → list_all is_sound ts ≡ true → tree_at l ts ≡ Some x → list_all is_sound (expr_tokens l x) ≡ true
+
+-- the text of the tree of any sound tokens, as those of a text are, is read back to the same tree up to lines and node numbers
+abbrev pub SoundExpressionsReadBack : Type 0
+SoundExpressionsReadBack = (tight : Token → Token → Bool) (l : Level) (ts : List Token) (x : Expr) → list_all is_sound ts ≡ true → tree_at l ts ≡ Some x
+    → (tokens_of (line_text tight (expr_tokens l x)) ≡ record { lines = record { line = 1; column = 0; tokens = expr_tokens l x } ∷ []; fault = None })
+    × ((y : Expr) × ((tree_at l (expr_tokens l x) ≡ Some y) × (unnumbered y ≡ unnumbered x)))

@@ -1,0 +1,12 @@
+pub mod Longest
+pub mod Fronts
+pub mod Pieces
+pub mod WordSpelling
+pub mod MarkSpelling
+pub mod IntegerSpelling
+pub mod StringSpelling
+pub mod TokenSpelling
+pub mod LineSpelling
+pub mod RowSpelling
+pub mod BracketSpelling
+pub mod Soundness

@@ -4,7 +4,7 @@ use Rattle.std.specs.List.{filter_map, list_any, position_from}
 use Rattle.py_syntax.specs.declared.module.Func.{Func}
 use Rattle.py_language.specs.declared.first.First.{First}
 use Rattle.py_language.specs.FirstForm.{func_at, items_from, module_of, is_among, is_distinct, name_of}
-use Rattle.py_meaning.specs.Meaning.{place_of}
+use Rattle.pyn_model.specs.FirstMeaning.{place_of}
 use Rattle.py_syntax.specs.Functions.{function_in, functions_of}
 use Rattle.pyn_model.proofs.Booleans.{both, not_true, same_text, none_between}
 

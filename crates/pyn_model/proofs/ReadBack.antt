@@ -6,7 +6,7 @@ use Rattle.py_syntax.specs.declared.module.Func.{Func}
 use Rattle.py_syntax.specs.declared.module.Module.{Module}
 use Rattle.py_language.specs.declared.first.First.{First}
 use Rattle.py_language.specs.FirstForm.{func_at, module_of, is_distinct, name_of, lines_of, between, before}
-use Rattle.py_meaning.specs.Meaning.{place_of}
+use Rattle.pyn_model.specs.FirstMeaning.{place_of}
 use Rattle.pyn_model.specs.declared.test.Step.TheVariants.{Function}
 use Rattle.pyn_model.specs.declared.test.TestCase.{TestCase}
 use Rattle.pyn_model.specs.declared.test.Suite.{Suite}

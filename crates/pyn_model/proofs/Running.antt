@@ -10,7 +10,7 @@ use Rattle.py_syntax.specs.declared.expr.ExprKind.TheVariants.{outs-Method, outs
 use Rattle.py_syntax.specs.declared.module.Func.{Func}
 use Rattle.py_syntax.specs.declared.module.Module.{Module}
 use Rattle.py_meaning.specs.declared.value.Value.{Value}
-use Rattle.py_meaning.specs.Meaning.{place_of}
+use Rattle.pyn_model.specs.FirstMeaning.{place_of}
 use Rattle.pyn_model.specs.FirstModules.{IsLiteral}
 use Rattle.pyn_model.specs.declared.report.TestLine.TheVariants.{Passes}
 use Rattle.py_syntax.specs.Functions.{functions_of}

@@ -6,8 +6,8 @@ use Rattle.py_syntax.specs.declared.module.Module.{Module}
 use Rattle.py_syntax.specs.declared.stmt.Stmt.{Stmt}
 use Rattle.py_meaning.specs.declared.value.Value.{Value}
 use Rattle.py_meaning.specs.declared.value.Value.TheVariants as v
-use Rattle.py_meaning.specs.Run.{State, Stop, Returned, OutOfSteps, Left}
-use Rattle.py_meaning.specs.Meaning.{means}
+use Rattle.pyn_model.specs.FirstRun.{State, Stop, Returned, OutOfSteps, Left}
+use Rattle.pyn_model.specs.FirstMeaning.{means}
 use Rattle.pyn_model.specs.declared.report.TestLine.{TestLine}
 use Rattle.pyn_model.specs.declared.report.TestLine.TheVariants as t
 use Rattle.pyn_model.specs.declared.test.Suite.{Suite}

@@ -9,8 +9,8 @@ use Rattle.py_syntax.specs.declared.module.Module.{Module}
 use Rattle.py_language.specs.declared.first.First.{First}
 use Rattle.py_language.specs.FirstForm.{module_of, is_distinct, name_of, most_functions}
 use Rattle.py_meaning.specs.declared.value.Value.{Value}
-use Rattle.py_meaning.specs.Run.{Run, pure}
-use Rattle.py_meaning.specs.Meaning.{value_by}
+use Rattle.pyn_model.specs.FirstRun.{Run, pure}
+use Rattle.pyn_model.specs.FirstMeaning.{value_by}
 
 -- an expression that is this value at once
 abbrev pub IsLiteral : ExprKind → Value → Type 0

@@ -2,7 +2,9 @@ pub mod Calls
 pub mod CallsReport
 pub mod Examples
 pub mod FileRun
+pub mod FirstMeaning
 pub mod FirstModules
+pub mod FirstRun
 pub mod Goals
 pub mod Judged
 pub mod Report

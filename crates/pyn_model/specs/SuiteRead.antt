@@ -3,7 +3,7 @@ use Rattle.std.specs.Prelude.{ℕ, ◌+◌, ◌*◌, Bool, ◌&&◌, ◌==◌, i
 use Rattle.std.specs.Option.{option_map}
 use Rattle.py_syntax.specs.declared.module.Module.{Module}
 use Rattle.py_language.specs.FirstForm.{lines_of, between, is_empty_line}
-use Rattle.py_meaning.specs.Meaning.{place_of}
+use Rattle.pyn_model.specs.FirstMeaning.{place_of}
 use Rattle.pyn_model.specs.declared.test.Step.TheVariants.{Function}
 use Rattle.pyn_model.specs.declared.test.TestCase.{TestCase}
 use Rattle.pyn_model.specs.declared.test.Suite.{Suite}

@@ -4,7 +4,7 @@
 //! what takes them, tests and the text of a suite (written and read), the run of a suite file by the plain meaning of
 //! the language, when a suite is minimal, and the report of a suite. The plain data types that they speak
 //! of stand here too. They cover what the program reads so far: modules of functions without parameters that
-//! return one literal, and tests that call them.
+//! return one literal, and tests that call them; what running means for these alone is here too.
 //!
 //! It stands on `py_language` and `py_meaning`, and knows nothing of desks, of words or of how a suite is found.
 #![tactic(auto)]

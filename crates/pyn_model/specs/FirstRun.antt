@@ -1,4 +1,5 @@
--- Runs: what is done one thing after another, over the present frame's variables and the steps that are left.
+-- Runs of the first form's programs: what is done one thing after another, over the present frame's variables and
+-- the steps that are left.
 use Rattle.std.specs.Prelude.{ℕ, zero, suc, List, [], ◌∷◌, ◌++◌, Result, Ok, Err}
 use Rattle.pyn_base.specs.declared.construct.Construct.{Construct}
 use Rattle.pyn_base.specs.declared.ids.NodeId.{NodeId}

@@ -1,4 +1,4 @@
--- The plain meaning of programs (Language Reference, chapters 4, 6, 7 and 8), as far as the program's modules go:
+-- The meaning of the first form's programs (Language Reference, chapters 4, 6, 7 and 8), as far as these modules go:
 -- functions without parameters that return a literal, and tests that call them. What has no meaning yet leaves.
 use Rattle.std.specs.Prelude.{ℕ, zero, suc, ◌+◌, if◌then◌else◌, bytes_eq, nat_lt, List, [], ◌∷◌, Option, Some, None, Result, Ok, Err, slice_get, option_and_then}
 use Rattle.std.specs.List.{position_from}
@@ -14,7 +14,7 @@ use Rattle.py_syntax.specs.declared.stmt.Target.TheVariants as target
 use Rattle.py_syntax.specs.declared.module.Func.{Func}
 use Rattle.py_meaning.specs.declared.value.Value.{Value}
 use Rattle.py_meaning.specs.declared.value.Value.TheVariants as v
-use Rattle.py_meaning.specs.Run.{State, Stop, Returned, OutOfSteps, Left, Run, ◌>>=◌, ◌>>◌, pure, stop, begins}
+use Rattle.pyn_model.specs.FirstRun.{State, Stop, Returned, OutOfSteps, Left, Run, ◌>>=◌, ◌>>◌, pure, stop, begins}
 
 -- the value of a name in a list of bindings, the newest first
 abbrev pub lookup : List (List ℕ × Value) → List ℕ → Option Value

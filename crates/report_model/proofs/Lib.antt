@@ -1,0 +1,5 @@
+pub mod ConstructLaws
+pub mod FieldLaws
+pub mod LineLaws
+pub mod ReadLaws
+pub mod SparedLaws

@@ -1,0 +1,10 @@
+pub mod Examples
+pub mod Fields
+pub mod Fits
+pub mod Laws
+pub mod LineForms
+pub mod Lines
+pub mod ReportRead
+pub mod ReportText
+pub mod Tables
+pub mod Words

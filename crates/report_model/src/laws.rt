@@ -1,0 +1,8 @@
+// Writing and reading agree.
+ghost use Rattle.report_model.specs.Laws.{ReadsBack, IsSpelled};
+
+/// A report's text is read back to it, and what is read is a report's text but for its totals.
+pub fn laws_of_reports()
+    ensures reads_back { ReadsBack }
+    ensures spelled { IsSpelled }
+{}

@@ -5,7 +5,7 @@
 //! LCR on `and` and `or`, ROR on comparisons. `Rows` is their table, one equation a row; `Sites` lists what applies where, in the order of
 //! reading; `Rewriting` makes the mutant; `Mutants` puts them together, up to a cap. Definitions alone.
 //!
-//! It builds on `py_nodes`, by which a mutant's nodes are numbered anew, and on `py_names`.
+//! It builds on `report_model`, whose lines name the operators, on `py_nodes`, by which a mutant's nodes are numbered anew, and on `py_names`.
 #![tactic(auto)]
 
 mod examples;

@@ -2,13 +2,14 @@
 use Rattle.std.proofs.Common.{◌≡◌, refl, ap, [], ◌∷◌, codes, decimal, arith}
 use Rattle.std.proofs.lemmas.Fmt.{decimal_digit}
 use Rattle.py_syntax.specs.declared.stmt.Annotation.TheVariants.{outs-Named, outs-NoneType, outs-OrNone, outs-Quoted}
+use Rattle.suite_model.specs.declared.suite.Shown.TheVariants.{outs-Prim, outs-List as outs-ListShown, outs-Tuple}
 use Rattle.suite_model.specs.declared.ty.Ty.TheVariants.{outs-Int, outs-Bool, outs-Str, outs-NoneType as outs-NoneTy, outs-List, outs-Dict, outs-Class, outs-OrNone as outs-OrNoneTy, outs-Any}
 use Rattle.pyn_base.specs.declared.class.ClassId.TheVariants.{Own}
 use Rattle.suite_model.specs.declared.ty.Ty.TheVariants as ty
 use Rattle.suite_model.specs.Callables.{method_signature}
 use Rattle.suite_model.specs.WellFormed.{method_by}
-use Rattle.suite_model.specs.Examples.{program, Annotations, Integers, Derived, Called, TypesOfSteps, WellFormed, Spelled}
-use Rattle.suite_model.specs.Folds.{by_annotation, by_same, by_fits}
+use Rattle.suite_model.specs.Examples.{program, Annotations, Integers, Derived, Called, TypesOfSteps, WellFormed, Spelled, Asserted}
+use Rattle.suite_model.specs.Folds.{by_annotation, by_same, by_fits, by_shown}
 
 ruleset levels = (by_annotation, by_same, by_fits, outs-Named, outs-NoneType, outs-OrNone, outs-Quoted, outs-Int, outs-Bool, outs-Str, outs-NoneTy, outs-List, outs-Dict, outs-Class, outs-OrNoneTy, outs-Any)
 
@@ -49,3 +50,8 @@ ruleset digits = (digit_0, digit_1, digit_2, digit_3)
 
 pub spelled : Spelled
 spelled = simp digits
+
+ruleset shows = (by_shown, outs-Prim, outs-ListShown, outs-Tuple, digit_0, digit_1)
+
+pub asserted : Asserted
+asserted = simp shows

@@ -14,6 +14,7 @@ use Rattle.py_syntax.specs.declared.module.Member.{Member}
 use Rattle.py_syntax.specs.declared.module.Member.TheVariants as member
 use Rattle.py_syntax.specs.declared.module.Module.{Module}
 use Rattle.py_syntax.specs.declared.module.Param.{Param}
+use Rattle.py_syntax.specs.declared.operator.CmpOp.TheVariants.{Eq, Same}
 use Rattle.py_syntax.specs.declared.operator.Sign.TheVariants.{Minus}
 use Rattle.py_syntax.specs.declared.stmt.Annotation.{Annotation}
 use Rattle.py_syntax.specs.declared.stmt.Annotation.TheVariants as a
@@ -26,7 +27,15 @@ use Rattle.suite_model.specs.declared.test.Prim.TheVariants as prim
 use Rattle.suite_model.specs.declared.test.Step.{Step}
 use Rattle.suite_model.specs.declared.test.Step.TheVariants as step
 use Rattle.suite_model.specs.declared.test.Test.{Test}
+use Rattle.suite_model.specs.declared.suite.Assert.{Assert}
+use Rattle.suite_model.specs.declared.suite.Shown.{Shown}
+use Rattle.suite_model.specs.declared.suite.Shown.TheVariants as shown
+use Rattle.suite_model.specs.declared.suite.Subject.{Subject}
+use Rattle.suite_model.specs.declared.suite.Subject.TheVariants.{Whole, Attr}
+use Rattle.suite_model.specs.declared.suite.Wants.{Wants}
+use Rattle.suite_model.specs.declared.suite.Wants.TheVariants.{Is, Equals, Kind}
 use Rattle.suite_model.specs.declared.ty.Ty.TheVariants as ty
+use Rattle.suite_model.specs.Assertions.{assertion}
 use Rattle.suite_model.specs.Callables.{callables_of}
 use Rattle.suite_model.specs.Statements.{statements_of}
 use Rattle.suite_model.specs.Types.{annotated, fits}
@@ -142,4 +151,23 @@ Spelled =
     ∷ assign (codes "var_1") (call (codes "module_0") (codes "B") (read (codes "var_0") ∷ []))
     ∷ assign (codes "var_2") (call (codes "var_1") (codes "m") [])
     ∷ assign (codes "var_3") (call (codes "module_0") (codes "f") (read (codes "var_1") ∷ read (codes "var_0") ∷ []))
+    ∷ []
+
+-- ---- assertions: `assert var_0 is None`, `assert var_1.size == [1, (2,)]`, `assert isinstance(var_1, module_0.B)`
+
+abbrev pub asserts : Subject → Wants → Assert
+asserts subject wants = record { after = 0; line = 1; subject = subject; wants = wants }
+
+abbrev pub assert : Expr → Stmt
+assert condition = record { node = record { 0 = 0 }; line = 1; kind = y.Assert condition None }
+
+abbrev pub number : ℕ → Shown
+number k = shown.Prim (prim.Int (pos k))
+
+abbrev pub Asserted : Type 0
+Asserted =
+    map (assertion program) (asserts (Whole 0) (Is prim.None) ∷ asserts (Attr 1 (codes "size")) (Equals (shown.List (number 1 ∷ shown.Tuple (number 2 ∷ []) ∷ []))) ∷ asserts (Whole 1) (Kind (Own 1)) ∷ [])
+    ≡ assert (e (x.Compare (read (codes "var_0")) ((Same, e x.NoneLit) ∷ [])))
+    ∷ assert (e (x.Compare (e (x.Attr (read (codes "var_1")) (codes "size"))) ((Eq, e (x.ListLit (e (x.IntLit (pos 1)) ∷ e (x.TupleLit (e (x.IntLit (pos 2)) ∷ [])) ∷ []))) ∷ [])))
+    ∷ assert (e (x.Call (read (codes "isinstance")) (roll-Args record { plain = read (codes "var_1") ∷ e (x.Attr (read (codes "module_0")) (codes "B")) ∷ []; named = [] })))
     ∷ []

@@ -6,7 +6,10 @@ use Rattle.py_meaning.specs.Worlds.{World}
 use Rattle.py_plain.specs.declared.state.State.{State}
 use Rattle.py_plain.specs.Program.{ClassInfo, Program}
 use Rattle.py_plain.specs.Tests.{Trail}
+use Rattle.py_syntax.specs.declared.expr.Expr.{Expr}
+use Rattle.suite_model.specs.declared.suite.Shown.{Shown, map-Shown, out-Shown}
 use Rattle.suite_model.specs.declared.ty.Ty.{Ty, map-Ty, out-Ty}
+use Rattle.suite_model.specs.Assertions.{display, display_by}
 use Rattle.suite_model.specs.Kept.{kept_from}
 use Rattle.suite_model.specs.Types.{annotated, type_by, Asked, asked_by, same_type, fits}
 
@@ -26,6 +29,10 @@ BySame = (program : Program) (t : Ty) (given : Ty) → same_type program t given
 
 abbrev pub ByFits : Type 0
 ByFits = (program : Program) (given : Ty) (t : Ty) → fits program given t ≡ (asked_again program t).fits given
+
+-- a display, from those of its parts
+abbrev pub ByShown : Type 0
+ByShown = (shown : Shown) → display shown ≡ display_by (map-Shown Shown Expr display (out-Shown shown))
 
 -- The statements that are kept, run alone, take the same steps and leave the same trail: what follows them plays no part.
 abbrev pub KeptAlone : Type 0

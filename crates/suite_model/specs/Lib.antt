@@ -1,3 +1,4 @@
+pub mod Assertions
 pub mod Callables
 pub mod Examples
 pub mod Folds

@@ -1,0 +1,5 @@
+pub mod Examples
+pub mod FileRun
+pub mod Judged
+pub mod Minimal
+pub mod Verdicts

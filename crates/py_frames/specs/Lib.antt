@@ -1,0 +1,4 @@
+pub mod Marked
+pub mod Rest
+pub mod Loads
+pub mod Laws

@@ -21,6 +21,8 @@ use Rattle.suite_model.specs.declared.test.Step.{Step}
 use Rattle.suite_model.specs.declared.test.Step.TheVariants as step
 use Rattle.suite_model.specs.Assertions.{assertion}
 use Rattle.suite_model.specs.Statements.{right_of, statement_of}
+use Rattle.suite_runs.specs.declared.answer.Answer.TheVariants.{Yes, NoReport}
+use Rattle.suite_runs.specs.Checked.{first_fault, report_answer}
 use Rattle.suite_runs.specs.FileRun.{Does, Raises, Asserts, bare, steps_of_case}
 use Rattle.suite_runs.specs.Judged.{judged}
 use Rattle.suite_runs.specs.Minimal.{smaller}
@@ -91,3 +93,15 @@ abbrev pub Empty : Type 0
 Empty =
     judged sample record { «module» = codes "box"; cases = [] } 20000 500
     ≡ record { «module» = codes "box"; steps = 20000; cap = 500; tests = []; goals = record { kind = kind.Entry; line = 1; by = None } ∷ []; mutants = []; minimal = true }
+
+-- ---- what a check says
+
+-- The first test that doesn't pass counts, whatever the report is.
+abbrev pub Faults : Type 0
+Faults = map first_fault ((Passes ∷ Stopped 8 cause.Steps ∷ Fails 12 reason.Assert ∷ []) ∷ (Passes ∷ []) ∷ []) ≡ Some 8 ∷ None ∷ []
+
+-- the same text; a line that differs; a missing line; a line too many; the last line feed missing
+abbrev pub Answers : Type 0
+Answers =
+    map (report_answer (codes "a\nb\n")) (codes "a\nb\n" ∷ codes "a\nc\n" ∷ codes "a\n" ∷ codes "a\nb\nc\n" ∷ codes "a\nb" ∷ [])
+    ≡ Yes ∷ NoReport 2 ∷ NoReport 2 ∷ NoReport 3 ∷ NoReport 2 ∷ []

@@ -1,3 +1,4 @@
+pub mod Checked
 pub mod Examples
 pub mod FileRun
 pub mod Judged

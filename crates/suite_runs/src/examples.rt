@@ -1,5 +1,5 @@
 // Small suites.
-ghost use Rattle.suite_runs.specs.Examples.{InOrder, InBlock, Verdicts, Smaller, Empty};
+ghost use Rattle.suite_runs.specs.Examples.{InOrder, InBlock, Verdicts, Smaller, Empty, Faults, Answers};
 
 /// What becomes of a mutant, from how the tests end on it.
 pub fn verdicts_by_example()
@@ -16,4 +16,10 @@ pub fn minimal_by_example()
 /// The report of a suite without tests.
 pub fn reports_by_example()
     ensures empty { Empty }
+{}
+
+/// What a check says of outcomes and of texts.
+pub fn answers_by_example()
+    ensures faults { Faults }
+    ensures answers { Answers }
 {}

@@ -1,0 +1,11 @@
+pub mod Annotations
+pub mod Constants
+pub mod Examples
+pub mod Folds
+pub mod Laws
+pub mod ModuleRows
+pub mod NameRows
+pub mod Names
+pub mod Pieces
+pub mod Refusals
+pub mod Uses

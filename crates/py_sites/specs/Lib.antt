@@ -1,0 +1,4 @@
+pub mod Code
+pub mod Nodes
+pub mod Refs
+pub mod Walks

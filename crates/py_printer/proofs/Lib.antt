@@ -1,0 +1,11 @@
+mod Ascii
+mod Draws
+mod Forms
+mod Inks
+mod Looks
+mod Parts
+mod ReadBack
+mod Series
+mod Touching
+mod Unnumbering
+mod Unrolled

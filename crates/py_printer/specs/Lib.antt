@@ -1,0 +1,5 @@
+pub mod Expressions
+pub mod Kinds
+pub mod ReadBack
+pub mod Spaces
+pub mod Style

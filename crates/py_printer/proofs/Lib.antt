@@ -2,6 +2,7 @@ mod Ascii
 mod Draws
 mod Forms
 mod Inks
+mod LineLaw
 mod Looks
 mod Parts
 mod ReadBack

@@ -27,13 +27,13 @@ use Rattle.py_printer.specs.ReadBack.{StyledReadBack}
 use Rattle.py_printer.proofs.Ascii.{IsAscii-list_all, keyword_ascii, mark_ascii}
 use Rattle.py_printer.proofs.Touching.{touch}
 
-and_both : (v w : Bool) → (v && w) ≡ true → (v ≡ true) × (w ≡ true)
+pub and_both : (v w : Bool) → (v && w) ≡ true → (v ≡ true) × (w ≡ true)
 and_both true w e = (refl, e)
 and_both false w e = absurd (cc)
 
 -- ---- the bytes of a token
 
-ascii : (bs : List ℕ) → list_all is_ascii bs ≡ true → encode_utf8_all bs ≡ bs
+pub ascii : (bs : List ℕ) → list_all is_ascii bs ≡ true → encode_utf8_all bs ≡ bs
 ascii bs e = encodes-IsAscii bs (IsAscii-list_all bs e)
 
 word_ascii : (c : ℕ) → is_word c ≡ true → is_ascii c ≡ true
@@ -73,10 +73,10 @@ space_bytes false = refl
 
 -- ---- a row of tokens as the pen lays it out
 
-abbrev gap : Pen → Token → Bool
+abbrev pub gap : Pen → Token → Bool
 gap p y = has_gap p (kind_of y) (letters y)
 
-abbrev laid : Pen → List Token → List Spaced
+abbrev pub laid : Pen → List Token → List Spaced
 laid p [] = []
 laid p (y ∷ ys) = (gap p y, y) ∷ laid (put p y) ys
 
@@ -101,7 +101,7 @@ laid_bytes p (y ∷ ys) s =
     ∙ append_assoc (encode_utf8_all p.text) (space (gap p y) ++ spelled y) (spaced_text (laid (put p y) ys))
     ∙ ap (λ xs. encode_utf8_all p.text ++ xs) (append_assoc (space (gap p y)) (spelled y) (spaced_text (laid (put p y) ys)))
 
-laid_tokens : (p : Pen) (ys : List Token) → map (λ (x : Spaced). x.1) (laid p ys) ≡ ys
+pub laid_tokens : (p : Pen) (ys : List Token) → map (λ (x : Spaced). x.1) (laid p ys) ≡ ys
 laid_tokens p [] = refl
 laid_tokens p (y ∷ ys) = ap (λ zs. y ∷ zs) (laid_tokens (put p y) ys)
 
@@ -139,17 +139,17 @@ no_gap is.Operator (c ∷ cs) = refl
 no_gap is.Operand [] = refl
 no_gap is.Operand (c ∷ cs) = refl
 
-abbrev row_of : Token → List Token → Row
+abbrev pub row_of : Token → List Token → Row
 row_of x xs = record { column = 0; first = x; others = laid (put (fresh []) x) xs }
 
-row_is : (x : Token) (xs : List Token) → list_all is_sound (x ∷ xs) ≡ true → is_balanced [] (x ∷ xs) ≡ true → is_row (row_of x xs) ≡ true
+pub row_is : (x : Token) (xs : List Token) → list_all is_sound (x ∷ xs) ≡ true → is_balanced [] (x ∷ xs) ≡ true → is_row (row_of x xs) ≡ true
 row_is x xs s b =
     let same : row_tokens (row_of x xs) ≡ x ∷ xs = ap (λ z. x ∷ z) (laid_tokens (put (fresh []) x) xs) in
     let s' : list_all is_sound (row_tokens (row_of x xs)) ≡ true = ap (list_all is_sound) same ∙ s in
     let b' : is_balanced [] (row_tokens (row_of x xs)) ≡ true = ap (is_balanced []) same ∙ b in
     rw (s', laid_spaced x (put (fresh []) x) xs (put_last (fresh []) x), b') refl
 
-row_bytes : (x : Token) (xs : List Token) → list_all is_sound (x ∷ xs) ≡ true → encode_utf8_all (text_of (x ∷ xs)) ++ 10 ∷ [] ≡ row_text (row_of x xs)
+pub row_bytes : (x : Token) (xs : List Token) → list_all is_sound (x ∷ xs) ≡ true → encode_utf8_all (text_of (x ∷ xs)) ++ 10 ∷ [] ≡ row_text (row_of x xs)
 row_bytes x xs s =
     let two = and_both (is_sound x) (list_all is_sound xs) s in
     let rest = spaced_text (laid (put (fresh []) x) xs) in

@@ -1,5 +1,5 @@
 -- The tree of any tokens is the tree of its own tokens, up to lines and node numbers.
-use Rattle.std.proofs.Common.{◌≡◌, ◌∙◌, ap, sym, refl, subst, ℕ, Bool, true, false, ◌&&◌, List, [], ◌∷◌, Option, Some, None}
+use Rattle.std.proofs.Common.{◌≡◌, ◌∙◌, ap, sym, refl, subst, ℕ, Bool, true, false, ◌&&◌, List, [], ◌∷◌, Option, Some, None, arith}
 use Rattle.std.specs.List.{list_all}
 use Rattle.std.proofs.lemmas.List.Folds.{list_all-append}
 use Rattle.py_language.specs.declared.shape.Symbol.{Symbol}
@@ -15,7 +15,8 @@ use Rattle.py_printing.specs.SymbolTokens.{tokens, tokens_in}
 use Rattle.py_printing.proofs.TreeLaw.{tokens_fit, fitting_read}
 use Rattle.py_spelling.specs.Spelling.{is_sound, RowsReadBack, OnlyBracketsOpen}
 use Rattle.py_printing.specs.Texts.{shape_tokens}
-use Rattle.py_printing.specs.Expressions.{unnumbered, expr_tokens, TreesReadBack, ExpressionsReadBack, SoundTreesAreSound, SoundExpressionsReadBack}
+use Rattle.py_printing.specs.Expressions.{unnumbered, expr_tokens, TreesReadBack, ExpressionsReadBack, SoundTreesAreSound, SoundExpressionsReadBack, TreesAreBalanced}
+use Rattle.py_printing.proofs.Nesting.{print_nests}
 use Rattle.py_printing.proofs.Numbers.{sorts}
 use Rattle.py_printing.proofs.TextLaw.{texts_read_back}
 use Rattle.py_printing.proofs.CleanForms.{Clean, CleanAs, slot_clean}
@@ -50,6 +51,11 @@ pub expressions_read_back : RowsReadBack → OnlyBracketsOpen → ExpressionsRea
 expressions_read_back rows only tight l ts x h s =
     let r = shape_read l ts x h in
     ((texts_read_back rows only tight l (expr_tokens l x) (unnumbered x) r.0 s).0, trees_read_back l ts x h)
+
+pub trees_balanced : OnlyBracketsOpen → TreesAreBalanced
+trees_balanced only l ts x rest h s =
+    let r = shape_read l ts x h in
+    print_nests only deepest (At l) (unnumbered x) (tokens_fit deepest l (expr_tokens l x) (unnumbered x) r.0) [] rest (omega arith) s
 
 -- ---- the tokens of a tree that was read from sound tokens are sound
 

@@ -11,7 +11,7 @@ use Rattle.py_syntax.specs.declared.expr.Args.{Args-F}
 use Rattle.py_syntax.specs.declared.expr.Expr.{Expr, fold-Expr}
 use Rattle.py_syntax.specs.declared.expr.ExprKind.{ExprKind-F}
 use Rattle.py_language.specs.Tokens.{tokens_of}
-use Rattle.py_spelling.specs.Spelling.{is_sound}
+use Rattle.py_spelling.specs.Spelling.{is_sound, is_balanced}
 use Rattle.py_printing.specs.Texts.{line_text, shape_tokens}
 
 abbrev pub Given : Type 0
@@ -69,6 +69,10 @@ abbrev pub ExpressionsReadBack : Type 0
 ExpressionsReadBack = (tight : Token → Token → Bool) (l : Level) (ts : List Token) (x : Expr) → tree_at l ts ≡ Some x → list_all is_sound (expr_tokens l x) ≡ true
     → (tokens_of (line_text tight (expr_tokens l x)) ≡ record { lines = record { line = 1; column = 0; tokens = expr_tokens l x } ∷ []; fault = None })
     × ((y : Expr) × ((tree_at l (expr_tokens l x) ≡ Some y) × (unnumbered y ≡ unnumbered x)))
+
+-- brackets of the tree of any tokens close in order, and no more than 50 are open at once, whatever tokens come after it
+abbrev pub TreesAreBalanced : Type 0
+TreesAreBalanced = (l : Level) (ts : List Token) (x : Expr) (rest : List Token) → tree_at l ts ≡ Some x → list_all is_sound (expr_tokens l x) ≡ true → is_balanced [] (expr_tokens l x ++ rest) ≡ is_balanced [] rest
 
 -- a tree of sound tokens is printed by sound tokens
 abbrev pub SoundTreesAreSound : Type 0

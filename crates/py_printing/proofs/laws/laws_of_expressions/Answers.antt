@@ -1,5 +1,5 @@
 use Rattle.py_printing.proofs.TextLaw.{texts_read_back}
-use Rattle.py_printing.proofs.ExprLaw.{trees_read_back, expressions_read_back, sound_trees, sound_read_back}
+use Rattle.py_printing.proofs.ExprLaw.{trees_read_back, expressions_read_back, sound_trees, sound_read_back, trees_balanced}
 use Rattle.py_printing.proofs.laws.laws_of_expressions.Goals as goal
 
 pub returns-clause-shapes : goal.returns-clause-shapes
@@ -16,3 +16,6 @@ returns-clause-sound_trees c = sound_trees
 
 pub returns-clause-sound : goal.returns-clause-sound
 returns-clause-sound c = sound_read_back c.laws_of_spelling.ensures.read_back c.laws_of_spelling.ensures.brackets
+
+pub returns-clause-balanced : goal.returns-clause-balanced
+returns-clause-balanced c = trees_balanced c.laws_of_spelling.ensures.brackets

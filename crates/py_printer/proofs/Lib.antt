@@ -1,0 +1,12 @@
+mod Ascii
+mod Draws
+mod Forms
+mod Inks
+mod LineLaw
+mod Looks
+mod Parts
+mod ReadBack
+mod Series
+mod Touching
+mod Unnumbering
+mod Unrolled

@@ -22,7 +22,7 @@ use Rattle.report_model.proofs.SparedLaws.{test_is_line, goal_is_line, mutant_is
 abbrev IsLine : List ℕ → Type 0
 IsLine line = spared 10 line ≡ true
 
-abbrev lines : List (List ℕ) → List ℕ → Lines
+abbrev pub lines : List (List ℕ) → List ℕ → Lines
 lines whole rest = record { whole = whole; rest = rest }
 
 -- a line and what is after its line feed
@@ -62,7 +62,7 @@ lines_text (c ∷ text) =
 
 -- ---- the next line
 
-bind_ok : {A B : Type 0} (r : Result A ℕ) (f : A → Result B ℕ) (y : B) → (r >>= f) ≡ Ok y → (x : A) × (r ≡ Ok x) × (f x ≡ Ok y)
+pub bind_ok : {A B : Type 0} (r : Result A ℕ) (f : A → Result B ℕ) (y : B) → (r >>= f) ≡ Ok y → (x : A) × (r ≡ Ok x) × (f x ≡ Ok y)
 bind_ok (Ok x) f y e = (x, refl, e)
 bind_ok (Err n) f y e = absurd cc
 
@@ -75,7 +75,7 @@ done x = Ok x
 same_Ok : {A : Type 0} (x y : A) → done x ≡ done y → x ≡ y
 same_Ok x y e = cc
 
-abbrev place : ℕ → List (List ℕ) → Place
+abbrev pub place : ℕ → List (List ℕ) → Place
 place number ls = record { number = number; lines = ls }
 
 next_again : {A : Type 0} (form : List ℕ → Option A) (number : ℕ) (line : List ℕ) (more : List (List ℕ)) (x : A) → form line ≡ Some x → next form (place number (line ∷ more)) ≡ Ok (x, place (number + 1) more)
@@ -87,7 +87,7 @@ read_or_takes number more (Some x) y e =
     (ap (λ p. Some p.0) same, ap (λ p. p.1.lines) same)
 read_or_takes number more None y e = absurd cc
 
-next_takes : {A : Type 0} (form : List ℕ → Option A) (number : ℕ) (ls : List (List ℕ)) (y : A × Place) → next_in form number ls ≡ Ok y → (line : List ℕ) × (ls ≡ line ∷ y.1.lines) × (form line ≡ Some y.0)
+pub next_takes : {A : Type 0} (form : List ℕ → Option A) (number : ℕ) (ls : List (List ℕ)) (y : A × Place) → next_in form number ls ≡ Ok y → (line : List ℕ) × (ls ≡ line ∷ y.1.lines) × (form line ≡ Some y.0)
 next_takes form number [] y e = absurd cc
 next_takes form number (line ∷ more) y e =
     let t = read_or_takes number more (form line) y e in
@@ -140,17 +140,17 @@ module _ {A : Type 0} (form : ℕ → List ℕ → Option A) (line : ℕ → A �
 
 -- ---- the head and the end
 
-head_again : (version : ℕ) (name : List ℕ) (steps cap : ℕ) (rest : List (List ℕ)) → is_name name ≡ true → IsSmall steps → IsSmall cap
+pub head_again : (version : ℕ) (name : List ℕ) (steps cap : ℕ) (rest : List (List ℕ)) → is_name name ≡ true → IsSmall steps → IsSmall cap
     → head_at version (place 1 (title_line version ∷ module_line name ∷ steps_line steps ∷ cap_line cap ∷ rest)) ≡ Ok (record { name = name; steps = steps; cap = cap }, place 5 rest)
 unfolding head_at
 head_again version name steps cap rest good small_steps small_cap = rw (title_again version, module_again name good, steps_again steps small_steps, cap_again cap small_cap) refl
 
 -- what a head takes from lines
-abbrev HeadTaken : ℕ → List (List ℕ) → Head × Place → Type 0
+abbrev pub HeadTaken : ℕ → List (List ℕ) → Head × Place → Type 0
 HeadTaken version ls y =
     (ls ≡ title_line version ∷ module_line y.0.name ∷ steps_line y.0.steps ∷ cap_line y.0.cap ∷ y.1.lines) × (is_name y.0.name ≡ true) × IsSmall y.0.steps × IsSmall y.0.cap
 
-head_takes : (version number : ℕ) (ls : List (List ℕ)) (y : Head × Place) → head_at version (place number ls) ≡ Ok y → HeadTaken version ls y
+pub head_takes : (version number : ℕ) (ls : List (List ℕ)) (y : Head × Place) → head_at version (place number ls) ≡ Ok y → HeadTaken version ls y
 unfolding head_at
 head_takes version number ls y e =
     let a = bind_ok (next (title_of version) (place number ls)) (λ title. next module_of title.1 >>= λ name. next steps_of name.1 >>= λ steps. next cap_of steps.1 >>= λ cap. Ok (record { name = name.0; steps = steps.0; cap = cap.0 }, cap.1)) y e in
@@ -261,7 +261,7 @@ mutants_stop_goals : (mutants : List MutantLine) (totals : Totals) (minimal : Bo
 mutants_stop_goals [] totals minimal = λ k. goal_not_total k totals.covered totals.goals
 mutants_stop_goals (m ∷ ms) totals minimal = λ k. goal_not_mutant k 0 m
 
-abbrev with_head : Head → List TestLine → List GoalLine → List MutantLine → Bool → Report
+abbrev pub with_head : Head → List TestLine → List GoalLine → List MutantLine → Bool → Report
 with_head head tests goals mutants minimal =
     record { «module» = head.name; steps = head.steps; cap = head.cap; tests = tests; goals = goals; mutants = mutants; minimal = minimal }
 
@@ -284,14 +284,18 @@ all_lines totals report fits_totals fits =
     let tests = numbered_lines test_of test_line FitsTest test_is_line 0 report.tests (goals_end report.goals report.mutants totals report.minimal) fits.tests (omega (arith, fits.few_tests)) goals in
     (title_is_line current (omega arith), (module_is_line report.«module» fits.name, (word_number_is_line (codes "steps") report.steps refl fits.steps, (word_number_is_line (codes "mutants") report.cap refl fits.cap, tests))))
 
-pub report_again : ReadsBack
-unfolding read_report read_lines
-report_again totals report fits_totals fits =
+pub whole_again : (totals : Totals) (report : Report) → FitsTotals totals → Fits report → read_lines current (lines (lines_with current totals report) []) ≡ Ok report
+unfolding read_lines
+whole_again totals report fits_totals fits =
     let body = numbered test_line 0 report.tests ++ goals_end report.goals report.mutants totals report.minimal in
     let head : Head = record { name = report.«module»; steps = report.steps; cap = report.cap } in
-    ap (read_lines current) (lines_again (lines_with current totals report) (all_lines totals report fits_totals fits))
-    ∙ then_again (head_at current (place 1 (lines_with current totals report))) (λ h. report_at [] h.0 h.1) (head, place 5 body) (Ok report) (head_again current report.«module» report.steps report.cap body fits.name fits.steps fits.cap)
+    then_again (head_at current (place 1 (lines_with current totals report))) (λ h. report_at [] h.0 h.1) (head, place 5 body) (Ok report) (head_again current report.«module» report.steps report.cap body fits.name fits.steps fits.cap)
     (body_again head 5 report.tests report.goals report.mutants totals report.minimal fits.tests fits.goals fits.mutants fits.few_tests fits.few_goals fits.few_mutants fits_totals)
+
+pub report_again : ReadsBack
+unfolding read_report
+report_again totals report fits_totals fits =
+    ap (read_lines current) (lines_again (lines_with current totals report) (all_lines totals report fits_totals fits)) ∙ whole_again totals report fits_totals fits
 
 -- what a report takes from lines, after which nothing is left
 abbrev ReportTaken : List ℕ → List (List ℕ) → Report → Type 0

@@ -17,7 +17,7 @@ mod reason;
 mod report;
 
 pub use examples::{read_by_example, refused_by_example, written_by_example};
-pub use laws::laws_of_reports;
+pub use laws::{law_of_refusals, laws_of_reports};
 pub use lines::{GoalLine, MutantLine, ShownKind, TestLine};
 pub use mutant::{Operator, Verdict};
 pub use reason::{Cause, ShownReason};

@@ -1,0 +1,4 @@
+pub mod Gives
+pub mod Heads
+pub mod Places
+pub mod Refuses

@@ -1,3 +1,4 @@
 pub mod Pushes
 pub mod Tails
 pub mod Waiting
+pub mod Falling

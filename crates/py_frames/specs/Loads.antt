@@ -1,5 +1,5 @@
 -- A number that falls at each turn of a machine which takes no step of the program.
-use Rattle.std.specs.Prelude.{◌≡◌, ℕ, ◌+◌, ◌<◌, ◌≤◌, List, Err}
+use Rattle.std.specs.Prelude.{◌≡◌, ℕ, ◌+◌, ◌*◌, ◌^◌, ◌<◌, ◌≤◌, List, length, Err}
 use Rattle.std.specs.List.{sum_by}
 use Rattle.py_plain.specs.declared.run.Abrupt.TheVariants.{OutOfSteps}
 use Rattle.py_frames.specs.declared.control.Control.{Control}
@@ -41,3 +41,12 @@ load stack doing = weight stack + load_of doing
 pub record Sinks (left left' load load' : ℕ) : Type 0 where
   pub fewer : left' ≤ left
   pub lighter : left' ≡ left → load' < load
+
+-- Steps count for more than any load.
+abbrev pub measure : ℕ → List Control → Doing → ℕ
+measure left stack doing = left * 2 ^ 70 + load stack doing
+
+-- where a step is taken or the load falls, so does this number
+abbrev pub MeasureFalls : Type 0
+MeasureFalls = (left left' : ℕ) (stack stack' : List Control) (doing doing' : Doing) → length stack' < 2 ^ 64
+    → Sinks left left' (load stack doing) (load stack' doing') → measure left' stack' doing' < measure left stack doing

@@ -1,0 +1,4 @@
+pub mod Levels
+pub mod Assigned
+pub mod Counts
+pub mod Orders

@@ -1,5 +1,5 @@
 -- What the program prints.
-use Rattle.std.specs.Prelude.{ℕ, ◌+◌, ◌-◌, ◌^◌, nat_le, min, Bool, true, false, List, [], ◌∷◌, ◌++◌, length, codes, decimal, encode_utf8_all, Result, Ok, Err}
+use Rattle.std.specs.Prelude.{ℕ, ◌+◌, ◌-◌, ◌^◌, nat_le, if◌then◌else◌, min, Bool, true, false, List, [], ◌∷◌, ◌++◌, length, codes, decimal, encode_utf8_all, Result, Ok, Err}
 use Rattle.std.specs.Option.{is_some}
 use Rattle.py_language.specs.declared.token.Logical.{Logical}
 use Rattle.py_language.specs.declared.token.Token.{Token}

@@ -80,8 +80,9 @@ fn expression_report(alloc: Global, tokens: &[Token]) -> Result<Text, Memory>
     Ok(text)
 }
 
-/// What is said of a text.
+/// What is said of a text of at most 268,435,456 bytes.
 pub fn report(alloc: Global, reading: Reading, text: &[u8]) -> Result<Text, Memory>
+    requires { length text.now ≤ 268435456 }
     ensures { IfOk result (λ t. t ≡ report reading text.now) }
 {
     match reading {

@@ -1,5 +1,5 @@
 // What is said of a text, by what it is read as.
-ghost use Rattle.std.specs.Prelude.{◌≡◌, length, IfOk};
+ghost use Rattle.std.specs.Prelude.{◌≡◌, ◌≤◌, length, IfOk};
 ghost use Rattle.std.specs.Option.{is_some};
 ghost use Rattle.py_language.specs.Trees.{tree_of};
 ghost use Rattle.pyn_bench.specs.Reports.{counted, tokens_in, counts_report, first_line, expression_report, report};

@@ -5,13 +5,13 @@ ghost use Rattle.pyn_model.specs.FirstModules.{IsFirst};
 ghost use Rattle.pynguin_job.specs.Outputs.{module_in, outputs_for};
 
 use crate::Job;
+use first_report::write_report;
 use py_first_form::read_first;
 use py_syntax::{Module, Refusal};
 use pyn_base::{Construct, Memory, Text};
 use pytest_file::write_calls;
 use std::alloc::Global;
 use suite_check::judge_calls;
-use suite_report::write_report;
 
 /// The most bytes of a module.
 pub const MODULE_LIMIT: u64 = 262_144;

@@ -1,1 +1,6 @@
+pub mod Cuts
+pub mod Numbers
+pub mod Places
 pub mod Sequences
+pub mod Titles
+pub mod Words

@@ -1,26 +1,45 @@
 -- Lines that are written one after another.
-use Rattle.std.proofs.Common.{◌≡◌, ◌∙◌, sym, ap, ℕ, ◌+◌, ◌<◌, ◌≤◌, List, [], ◌∷◌, ◌++◌, length, drop, get_or, append_assoc, append-nil, refl, add-one}
+use Rattle.std.proofs.Common.{◌≡◌, ◌∙◌, sym, ap, refl, arith, codes, decimal, [], ℕ, ◌+◌, ◌<◌, List, ◌∷◌, ◌++◌, length, drop, get_or, append_assoc, add-one}
 use Rattle.std.proofs.Math.Seq.{drop-cons}
-use Rattle.pyn_model.specs.declared.report.TestLine.{TestLine}
-use Rattle.pyn_model.specs.declared.report.GoalLine.{GoalLine}
-use Rattle.pyn_model.specs.Report.{test_text, tests_text, goal_text, goals_text}
+use Rattle.std.proofs.lemmas.Grind.{flat_map-append}
+use Rattle.std.proofs.lemmas.Fmt.{decimal_digit}
+use Rattle.report_model.specs.declared.report.Report.{Report}
+use Rattle.report_model.specs.Lines.{title_line, module_line, steps_line, cap_line, test_line, goal_line, mutant_line}
+use Rattle.report_model.specs.ReportText.{numbered, ended, text_of_lines, end_lines, totals_of, report_text, current}
+use Rattle.report_model.specs.Words.{◌␣◌}
+use Rattle.suite_report.specs.Heads.{head_lines, head_text}
 
-pub test_more : (text next whole : List ℕ) (n : ℕ) (tests : List TestLine) (d : TestLine) → n < length tests
-    → text ++ tests_text n (drop n tests) ≡ whole → next ≡ text ++ test_text n (get_or tests n d) → next ++ tests_text (n + 1) (drop (n + 1) tests) ≡ whole
-test_more text next whole n tests d lt before e =
-    let test = get_or tests n d in
-    let rest : drop n tests ≡ test ∷ drop (n + 1) tests = rw (drop-cons tests n d lt, add-one) refl in
-    ap (λ t. t ++ tests_text (n + 1) (drop (n + 1) tests)) e
-    ∙ append_assoc text (test_text n test) (tests_text (n + 1) (drop (n + 1) tests))
-    ∙ ap (λ xs. text ++ tests_text n xs) (sym rest)
+pub item_more : {A : Type 0} (line : ℕ → A → List ℕ) (text next whole : List ℕ) (n : ℕ) (items : List A) (item : A) → n < length items → item ≡ get_or items n item
+    → text ++ text_of_lines (numbered line n (drop n items)) ≡ whole → next ≡ text ++ ended (line n item) → next ++ text_of_lines (numbered line (n + 1) (drop (n + 1) items)) ≡ whole
+item_more line text next whole n items item lt is before e =
+    let later = text_of_lines (numbered line (n + 1) (drop (n + 1) items)) in
+    let first : drop n items ≡ get_or items n item ∷ drop (n + 1) items = rw (drop-cons items n item lt, add-one) refl in
+    let rest : drop n items ≡ item ∷ drop (n + 1) items = first ∙ ap (λ x. x ∷ drop (n + 1) items) (sym is) in
+    ap (λ (t : List ℕ). t ++ later) e
+    ∙ append_assoc text (ended (line n item)) later
+    ∙ ap (λ xs. text ++ text_of_lines (numbered line n xs)) (sym rest)
     ∙ before
 
-pub goal_more : (text next whole : List ℕ) (n : ℕ) (goals : List GoalLine) (d : GoalLine) → n < length goals
-    → text ++ goals_text n (drop n goals) ≡ whole → next ≡ text ++ goal_text n (get_or goals n d) → next ++ goals_text (n + 1) (drop (n + 1) goals) ≡ whole
-goal_more text next whole n goals d lt before e =
-    let goal = get_or goals n d in
-    let rest : drop n goals ≡ goal ∷ drop (n + 1) goals = rw (drop-cons goals n d lt, add-one) refl in
-    ap (λ t. t ++ goals_text (n + 1) (drop (n + 1) goals)) e
-    ∙ append_assoc text (goal_text n goal) (goals_text (n + 1) (drop (n + 1) goals))
-    ∙ ap (λ xs. text ++ goals_text n xs) (sym rest)
-    ∙ before
+-- the parts of a report, one after another
+pub joined : (h t g m e : List (List ℕ)) → text_of_lines (h ++ (t ++ (g ++ (m ++ e)))) ≡ (((text_of_lines h ++ text_of_lines t) ++ text_of_lines g) ++ text_of_lines m) ++ text_of_lines e
+joined h t g m e = simp (flat_map-append ended, append_assoc)
+
+title_is : title_line current ≡ codes "pynguin report 1"
+title_is = ap (λ d. codes "pynguin" ␣ codes "report" ␣ d) (decimal_digit 1 (omega arith))
+
+-- the head, written
+head_is : (report : Report) → text_of_lines (head_lines report) ≡ head_text report
+head_is report =
+    ap (λ (t : List ℕ). ended t ++ text_of_lines (module_line report.«module» ∷ steps_line report.steps ∷ cap_line report.cap ∷ [])) title_is ∙ simp append_assoc
+
+-- the whole text, written part by part
+pub written : (report : Report) (z a b c d e : List ℕ) → z ≡ [] → a ≡ z ++ head_text report → b ≡ a ++ text_of_lines (numbered test_line 0 report.tests) → c ≡ b ++ text_of_lines (numbered goal_line 0 report.goals)
+    → d ≡ c ++ text_of_lines (numbered mutant_line 0 report.mutants) → e ≡ d ++ text_of_lines (end_lines (totals_of report) report.minimal) → e ≡ report_text report
+written report z a b c d e ez ea eb ec ed ee =
+    let T = numbered test_line 0 report.tests in
+    let G = numbered goal_line 0 report.goals in
+    let M = numbered mutant_line 0 report.mutants in
+    let E = end_lines (totals_of report) report.minimal in
+    let head : a ≡ text_of_lines (head_lines report) = ea ∙ ap (λ (x : List ℕ). x ++ head_text report) ez ∙ sym (head_is report) in
+    ee ∙ ap (λ (x : List ℕ). x ++ text_of_lines E) (ed ∙ ap (λ (x : List ℕ). x ++ text_of_lines M) (ec ∙ ap (λ (x : List ℕ). x ++ text_of_lines G) (eb ∙ ap (λ (x : List ℕ). x ++ text_of_lines T) head)))
+    ∙ sym (joined (head_lines report) T G M E)

@@ -1,90 +1,108 @@
 // The whole text.
-ghost use Rattle.std.specs.Prelude.{◌≡◌, ◌++◌, length, IfOk, OnOk, codes, decimal};
-ghost use Rattle.pyn_model.specs.Report.{covered_count, head_text, tests_text, goals_text, yes_or_no, totals_text, report_text};
+ghost use Rattle.std.specs.Prelude.{◌≡◌, ◌++◌, ◌∷◌, [], length, IfOk, OnOk, codes, count_by, is_some, decimal};
+ghost use Rattle.report_model.specs.declared.lines.GoalLine.{GoalLine};
+ghost use Rattle.report_model.specs.declared.lines.MutantLine.{MutantLine};
+ghost use Rattle.report_model.specs.Lines.{minimal_line};
+ghost use Rattle.report_model.specs.ReportText.{numbered, text_of_lines, is_killed, report_text, totals_of, end_lines};
+ghost use Rattle.suite_report.specs.Heads.{head_text};
 
-use crate::lines::{write_goal, write_test};
+use crate::write_lines::Written;
 use pyn_base::{Memory, Text};
-use pyn_model::{GoalLine, Report, TestLine};
+use report_model::{GoalLine, MutantLine, Report, Verdict};
 use std::alloc::Global;
-
-fn write_title(text: &mut Text, report: &Report) -> Result<(), Memory>
-    ensures { OnOk result (text.new ≡ text.old ++ (codes "pynguin report 1\nmodule " ++ report.now.module ++ codes "\nsteps " ++ decimal report.now.steps)) }
-{
-    text.push_ascii(b"pynguin report 1\nmodule ")?;
-    text.push_name(&report.module)?;
-    text.push_ascii(b"\nsteps ")?;
-    text.push_number(report.steps as u64)?;
-    Ok(())
-}
 
 fn write_head(text: &mut Text, report: &Report) -> Result<(), Memory>
     ensures { OnOk result (text.new ≡ text.old ++ head_text report.now) }
 {
-    write_title(text, report)?;
+    text.push_ascii(b"pynguin report 1\nmodule ")?;
+    text.push_name(&report.module)?;
+    text.push_ascii(b"\nsteps ")?;
+    text.push_number(u64::from(report.steps))?;
     text.push_ascii(b"\nmutants ")?;
-    text.push_number(report.cap as u64)?;
+    text.push_number(u64::from(report.cap))?;
     text.push_ascii(b"\n")?;
     Ok(())
 }
 
-fn write_tests(text: &mut Text, tests: &[TestLine]) -> Result<(), Memory>
-    ensures { OnOk result (text.new ≡ text.old ++ tests_text 0 tests.now) }
+fn write_series<T: Written>(text: &mut Text, items: &[T]) -> Result<(), Memory>
+    ensures { OnOk result (text.new ≡ text.old ++ text_of_lines (numbered T.line 0 items.now)) }
 {
-    for (number, test) in tests.iter().enumerate() {
-        write_test(text, number as u64, *test)?;
-    }
-    Ok(())
-}
-
-fn write_goals(text: &mut Text, goals: &[GoalLine]) -> Result<(), Memory>
-    ensures { OnOk result (text.new ≡ text.old ++ goals_text 0 goals.now) }
-{
-    for (number, goal) in goals.iter().enumerate() {
-        write_goal(text, number as u64, *goal)?;
+    for (number, item) in items.iter().enumerate() {
+        item.write(text, number as u64)?;
     }
     Ok(())
 }
 
 // How many goals a test takes.
 fn covered(goals: &[GoalLine]) -> usize
-    ensures { result ≡ covered_count goals.now }
+    ensures { result ≡ count_by (λ (goal : GoalLine). is_some goal.by) goals.now }
 {
     goals.iter().filter(|goal| goal.by.is_some()).count()
 }
 
-fn write_answer(text: &mut Text, answer: bool) -> Result<(), Memory>
-    ensures { OnOk result (text.new ≡ text.old ++ yes_or_no answer) }
+fn is_killed(verdict: &Verdict) -> bool
+    ensures { result ≡ is_killed verdict.now }
 {
-    if answer {
-        text.push_ascii(b"yes")?;
-    } else {
-        text.push_ascii(b"no")?;
+    match verdict {
+        Verdict::Killed(_, _, _) => true,
+        Verdict::Survived => false,
+        Verdict::Undecided(_) => false,
     }
-    Ok(())
 }
 
-fn write_totals(text: &mut Text, report: &Report) -> Result<(), Memory>
-    ensures { OnOk result (text.new ≡ text.old ++ totals_text report.now) }
+// How many mutants are killed.
+fn killed(mutants: &[MutantLine]) -> usize
+    ensures { result ≡ count_by (λ (mutant : MutantLine). is_killed mutant.verdict) mutants.now }
 {
-    let goals = report.goals.as_slice();
-    text.push_ascii(b"goals ")?;
-    text.push_number(covered(goals) as u64)?;
+    mutants
+        .iter()
+        .filter(|mutant| is_killed(&mutant.verdict))
+        .count()
+}
+
+fn write_total(text: &mut Text, some: usize, all: usize) -> Result<(), Memory>
+    ensures { OnOk result (text.new ≡ text.old ++ (decimal some ++ (codes " of " ++ (decimal all ++ 10 ∷ [])))) }
+{
+    text.push_number(some as u64)?;
     text.push_ascii(b" of ")?;
-    text.push_number(goals.len() as u64)?;
-    text.push_ascii(b"\nkills 0 of 0\nminimal ")?;
-    write_answer(text, report.minimal)?;
+    text.push_number(all as u64)?;
     text.push_ascii(b"\n")?;
     Ok(())
 }
 
-/// The text of a report, line by line: the head, a line a test, a line a goal, and the totals.
+fn write_minimal(text: &mut Text, minimal: bool) -> Result<(), Memory>
+    ensures { OnOk result (text.new ≡ text.old ++ (minimal_line minimal ++ 10 ∷ [])) }
+{
+    if minimal {
+        text.push_ascii(b"minimal yes\n")?;
+    } else {
+        text.push_ascii(b"minimal no\n")?;
+    }
+    Ok(())
+}
+
+fn write_end(text: &mut Text, report: &Report) -> Result<(), Memory>
+    ensures { OnOk result (text.new ≡ text.old ++ text_of_lines (end_lines (totals_of report.now) report.now.minimal)) }
+{
+    let goals = report.goals.as_slice();
+    let mutants = report.mutants.as_slice();
+    text.push_ascii(b"goals ")?;
+    write_total(text, covered(goals), goals.len())?;
+    text.push_ascii(b"kills ")?;
+    write_total(text, killed(mutants), mutants.len())?;
+    write_minimal(text, report.minimal)?;
+    Ok(())
+}
+
+/// The text of a report, line by line: the head, a line for each test, goal and mutant, and the totals.
 pub fn write_report(alloc: Global, report: &Report) -> Result<Text, Memory>
     ensures { IfOk result (λ text. text ≡ report_text report.now) }
 {
     let mut text = Text::new(alloc);
     write_head(&mut text, report)?;
-    write_tests(&mut text, report.tests.as_slice())?;
-    write_goals(&mut text, report.goals.as_slice())?;
-    write_totals(&mut text, report)?;
+    write_series(&mut text, report.tests.as_slice())?;
+    write_series(&mut text, report.goals.as_slice())?;
+    write_series(&mut text, report.mutants.as_slice())?;
+    write_end(&mut text, report)?;
     Ok(text)
 }

@@ -27,10 +27,25 @@ joined h t g m e = simp (flat_map-append ended, append_assoc)
 title_is : title_line current ≡ codes "pynguin report 1"
 title_is = ap (λ d. codes "pynguin" ␣ codes "report" ␣ d) (decimal_digit 1 (omega arith))
 
+-- the head's lines, of any name and numbers
+head_parts : (name steps most : List ℕ) → text_of_lines (codes "pynguin report 1" ∷ (codes "module" ␣ name) ∷ (codes "steps" ␣ steps) ∷ (codes "mutants" ␣ most) ∷ [])
+    ≡ codes "pynguin report 1\nmodule " ++ (name ++ (codes "\nsteps " ++ (steps ++ (codes "\nmutants " ++ (most ++ codes "\n")))))
+head_parts name steps most =
+    ap (λ (z : List ℕ). codes "pynguin report 1\nmodule " ++ z)
+    (append_assoc name (10 ∷ []) (text_of_lines ((codes "steps" ␣ steps) ∷ (codes "mutants" ␣ most) ∷ []))
+    ∙ ap (λ (z : List ℕ). name ++ (codes "\nsteps " ++ z))
+    (append_assoc steps (10 ∷ []) (text_of_lines ((codes "mutants" ␣ most) ∷ []))
+    ∙ ap (λ (z : List ℕ). steps ++ (codes "\nmutants " ++ z)) (append_assoc most (10 ∷ []) [])))
+
 -- the head, written
 head_is : (report : Report) → text_of_lines (head_lines report) ≡ head_text report
 head_is report =
-    ap (λ (t : List ℕ). ended t ++ text_of_lines (module_line report.«module» ∷ steps_line report.steps ∷ cap_line report.cap ∷ [])) title_is ∙ simp append_assoc
+    ap (λ (t : List ℕ). ended t ++ text_of_lines (module_line report.«module» ∷ steps_line report.steps ∷ cap_line report.cap ∷ [])) title_is
+    ∙ head_parts report.«module» (decimal report.steps) (decimal report.cap)
+
+-- lines of items that are those of others
+pub lines_of : {A : Type 0} (line : ℕ → A → List ℕ) (next text : List ℕ) (items others : List A) → next ≡ text ++ text_of_lines (numbered line 0 items) → items ≡ others → next ≡ text ++ text_of_lines (numbered line 0 others)
+lines_of line next text items others e same = e ∙ ap (λ xs. text ++ text_of_lines (numbered line 0 xs)) same
 
 -- the whole text, written part by part
 pub written : (report : Report) (z a b c d e : List ℕ) → z ≡ [] → a ≡ z ++ head_text report → b ≡ a ++ text_of_lines (numbered test_line 0 report.tests) → c ≡ b ++ text_of_lines (numbered goal_line 0 report.goals)

@@ -37,11 +37,11 @@ use Rattle.py_layout.specs.Quiet.{is_strict, is_absent, QuietAt, Quiet, Expressi
 
 -- ---- tokens, one after another
 
-scan-append : (n : ℕ) (xs ys : List Token) → scan opened n (xs ++ ys) ≡ scan opened (scan opened n xs) ys
+pub scan-append : (n : ℕ) (xs ys : List Token) → scan opened n (xs ++ ys) ≡ scan opened (scan opened n xs) ys
 scan-append n [] ys = refl
 scan-append n (x ∷ xs) ys = scan-append (opened n x) xs ys
 
-passes-append : (p : Separator) (n : ℕ) (xs ys : List Token) → Passes opened (outside p) n xs → Passes opened (outside p) (scan opened n xs) ys → Passes opened (outside p) n (xs ++ ys)
+pub passes-append : (p : Separator) (n : ℕ) (xs ys : List Token) → Passes opened (outside p) n xs → Passes opened (outside p) (scan opened n xs) ys → Passes opened (outside p) n (xs ++ ys)
 passes-append p n [] ys h g = g
 passes-append p n (x ∷ xs) ys h g = (h.0, passes-append p (opened n x) xs ys h.1 g)
 
@@ -52,7 +52,7 @@ quiet_append n xs ys f g =
       passes = λ p h. passes-append p n xs ys (f.passes p h) (subst (λ k. Passes opened (outside p) k ys) (sym f.closes) (g.passes p h));
     }
 
-quiet_nil : (n : ℕ) → QuietAt n []
+pub quiet_nil : (n : ℕ) → QuietAt n []
 quiet_nil n = record { closes = refl; passes = λ p h. tt }
 
 -- ---- a token that is no separator
@@ -130,7 +130,7 @@ outside_deep p n x = ap (λ v. v && marks p x) (some_open n)
 abbrev Flat : Token → Type 0
 Flat x = (n : ℕ) → opened n x ≡ n
 
-plain_quiet : (x : Token) → Flat x → is_plain x ≡ true → (n : ℕ) → QuietAt n (x ∷ [])
+pub plain_quiet : (x : Token) → Flat x → is_plain x ≡ true → (n : ℕ) → QuietAt n (x ∷ [])
 plain_quiet x f e n = record { closes = f n; passes = λ p h. (not_outside p n x e h, tt) }
 
 deep_quiet : (x : Token) → Flat x → (n : ℕ) → QuietAt (suc n) (x ∷ [])
@@ -141,7 +141,7 @@ deep_quiet x f n = record { closes = f (suc n); passes = λ p h. (outside_deep p
 abbrev SymQuiet : ℕ → List Symbol → Type 0
 SymQuiet n xs = QuietAt n (tokens xs)
 
-tokens-append : (xs ys : List Symbol) → tokens (xs ++ ys) ≡ tokens xs ++ tokens ys
+pub tokens-append : (xs ys : List Symbol) → tokens (xs ++ ys) ≡ tokens xs ++ tokens ys
 tokens-append [] ys = refl
 tokens-append (x ∷ xs) ys = ap (λ z. tokens_in x ++ z) (tokens-append xs ys) ∙ sym (append_assoc (tokens_in x) (tokens xs) (tokens ys))
 
@@ -167,7 +167,7 @@ shuts Square n = refl
 shuts Brace n = refl
 
 -- tokens between an opening bracket and its closing one
-between : (b : Bracket) (n : ℕ) (ts : List Token) → QuietAt (suc n) ts → QuietAt n (open_token b ∷ (ts ++ close_token b ∷ []))
+pub between : (b : Bracket) (n : ℕ) (ts : List Token) → QuietAt (suc n) ts → QuietAt n (open_token b ∷ (ts ++ close_token b ∷ []))
 between b n ts f =
     record {
       closes = ap (λ k. scan opened k (ts ++ close_token b ∷ [])) (opens b n) ∙ scan-append (suc n) ts (close_token b ∷ []) ∙ ap (λ k. opened k (close_token b)) f.closes ∙ shuts b n;
@@ -209,7 +209,7 @@ compare_quiet NotContained n = two_quiet _ _ n (λ n. refl) refl (λ n. refl) re
 compare_quiet Same n = plain_quiet _ (λ n. refl) refl n
 compare_quiet NotSame n = two_quiet _ _ n (λ n. refl) refl (λ n. refl) refl
 
-dotted : (x : List ℕ) (n : ℕ) → QuietAt n (t.Mark m.Dot ∷ t.Name x ∷ [])
+pub dotted : (x : List ℕ) (n : ℕ) → QuietAt n (t.Mark m.Dot ∷ t.Name x ∷ [])
 dotted x n = two_quiet _ _ n (λ n. refl) refl (λ n. refl) refl
 
 super_quiet : (x : List ℕ) (n : ℕ) → QuietAt n (tokens_in (s.Super x))
@@ -248,14 +248,14 @@ mark_all n k (t ∷ ts) b h = ((b, h.0), mark_all n k ts b h.1)
 
 -- ---- one level of a printed shape
 
-abbrev printed_by : Shape-F Shape → Printed
+abbrev pub printed_by : Shape-F Shape → Printed
 printed_by k = print_node (map-Shape Shape Printed printed k)
 
-printed-out : (x : Shape) → printed x ≡ printed_by (out-Shape x)
+pub printed-out : (x : Shape) → printed x ≡ printed_by (out-Shape x)
 unfolding printed
 printed-out x = fold_out-Shape Printed print_node x
 
-printed-slice : (x : Shape) (low high : Option Shape) → printed (e.Slice x low high) ≡ print_node (Shape-F.Slice (printed x) (option_map printed low) (option_map printed high))
+pub printed-slice : (x : Shape) (low high : Option Shape) → printed (e.Slice x low high) ≡ print_node (Shape-F.Slice (printed x) (option_map printed low) (option_map printed high))
 printed-slice x None None = printed-out (e.Slice x None None) ∙ ap printed_by (outs-Slice x None None)
 printed-slice x None (Some w) = printed-out (e.Slice x None (Some w)) ∙ ap printed_by (outs-Slice x None (Some w))
 printed-slice x (Some v) None = printed-out (e.Slice x (Some v) None) ∙ ap printed_by (outs-Slice x (Some v) None)

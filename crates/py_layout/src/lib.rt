@@ -9,4 +9,4 @@
 
 mod laws;
 
-pub use laws::laws_of_quiet;
+pub use laws::{law_of_small_statements, laws_of_quiet};

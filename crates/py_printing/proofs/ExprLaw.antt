@@ -15,7 +15,7 @@ use Rattle.py_printing.specs.SymbolTokens.{tokens, tokens_in}
 use Rattle.py_printing.proofs.TreeLaw.{tokens_fit, fitting_read}
 use Rattle.py_spelling.specs.Spelling.{is_sound, RowsReadBack, OnlyBracketsOpen}
 use Rattle.py_printing.specs.Texts.{shape_tokens}
-use Rattle.py_printing.specs.Expressions.{unnumbered, expr_tokens, TreesReadBack, ExpressionsReadBack, SoundTreesAreSound, SoundExpressionsReadBack, TreesAreBalanced}
+use Rattle.py_printing.specs.Expressions.{unnumbered, expr_tokens, TreesReadBack, ExpressionsReadBack, SoundTreesAreSound, SoundExpressionsReadBack, TreesAreBalanced, ShapesReadBack}
 use Rattle.py_printing.proofs.Nesting.{print_nests}
 use Rattle.py_printing.proofs.Numbers.{sorts}
 use Rattle.py_printing.proofs.TextLaw.{texts_read_back}
@@ -40,6 +40,9 @@ shape_read l ts x h =
     let is : w.y ≡ unnumbered x = sym (ap unnumbered (sym f.1.1) ∙ w.is 0) in
     let both : (shape deepest l (symbols (shape_tokens l w.y)) ≡ Some w.y) × ((n : ℕ) → unnumbered (numbered w.y n).0 ≡ w.y) = (fitting_read deepest l w.y w.fits, w.stable) in
     subst (λ y. (shape deepest l (symbols (shape_tokens l y)) ≡ Some y) × ((n : ℕ) → unnumbered (numbered y n).0 ≡ y)) is both
+
+pub shapes_read_back : ShapesReadBack
+shapes_read_back l ts x h = (shape_read l ts x h).0
 
 pub trees_read_back : TreesReadBack
 unfolding tree_at

@@ -6,7 +6,8 @@ use Rattle.py_language.specs.declared.shape.Atom.TheVariants as a
 use Rattle.py_language.specs.declared.shape.Shape.{Shape}
 use Rattle.py_language.specs.declared.shape.Shape.TheVariants as e
 use Rattle.py_language.specs.TreesPlaces.{Level}
-use Rattle.py_language.specs.Trees.{tree_at}
+use Rattle.py_language.specs.TreesSymbols.{symbols}
+use Rattle.py_language.specs.Trees.{shape, deepest, tree_at}
 use Rattle.py_syntax.specs.declared.expr.Args.{Args-F}
 use Rattle.py_syntax.specs.declared.expr.Expr.{Expr, fold-Expr}
 use Rattle.py_syntax.specs.declared.expr.ExprKind.{ExprKind-F}
@@ -62,6 +63,10 @@ expr_tokens l x = shape_tokens l (unnumbered x)
 -- the tree of any tokens is the tree of its own tokens, up to lines and node numbers
 abbrev pub TreesReadBack : Type 0
 TreesReadBack = (l : Level) (ts : List Token) (x : Expr) → tree_at l ts ≡ Some x → (y : Expr) × ((tree_at l (expr_tokens l x) ≡ Some y) × (unnumbered y ≡ unnumbered x))
+
+-- the shape of a tree's own tokens is that of the tree
+abbrev pub ShapesReadBack : Type 0
+ShapesReadBack = (l : Level) (ts : List Token) (x : Expr) → tree_at l ts ≡ Some x → shape deepest l (symbols (expr_tokens l x)) ≡ Some (unnumbered x)
 
 -- the text of the tree of any tokens, in any style of spaces, is one logical line without a fault,
 -- whose tree is the same up to lines and node numbers, where names, integers and strings are those of a text

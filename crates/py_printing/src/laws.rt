@@ -1,5 +1,5 @@
 // The laws of printing, proved for every tree.
-ghost use Rattle.py_printing.specs.Expressions.{ExpressionsReadBack, TreesReadBack, SoundTreesAreSound, SoundExpressionsReadBack, TreesAreBalanced};
+ghost use Rattle.py_printing.specs.Expressions.{ExpressionsReadBack, TreesReadBack, SoundTreesAreSound, SoundExpressionsReadBack, TreesAreBalanced, ShapesReadBack};
 ghost use Rattle.py_printing.specs.ShapeLaws.{FittingAreRead, OnlyFittingAreRead, ReadFromOwnTokens};
 ghost use Rattle.py_printing.specs.Texts.{TextsReadBack};
 
@@ -15,7 +15,8 @@ pub fn laws_of_shapes()
 
 /// Whatever any tokens are read as, no deeper than 50, is read again from its text, in any style of spaces, where its names,
 /// integers and strings are those of a text: the same shape, and the same tree up to lines and node numbers. They are those of a
-/// text wherever the tokens that were read are. Their brackets close in order, whatever comes after them.
+/// text wherever the tokens that were read are. Their brackets close in order, whatever comes after them. The shape of a
+/// tree's own tokens is that of the tree.
 pub fn laws_of_expressions()
     ensures shapes { TextsReadBack }
     ensures trees { TreesReadBack }
@@ -23,6 +24,7 @@ pub fn laws_of_expressions()
     ensures sound_trees { SoundTreesAreSound }
     ensures sound { SoundExpressionsReadBack }
     ensures balanced { TreesAreBalanced }
+    ensures own_shapes { ShapesReadBack }
 {
     laws_of_spelling();
 }

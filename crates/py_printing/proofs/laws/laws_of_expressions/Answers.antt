@@ -1,5 +1,5 @@
 use Rattle.py_printing.proofs.TextLaw.{texts_read_back}
-use Rattle.py_printing.proofs.ExprLaw.{trees_read_back, expressions_read_back, sound_trees, sound_read_back, trees_balanced}
+use Rattle.py_printing.proofs.ExprLaw.{shapes_read_back, trees_read_back, expressions_read_back, sound_trees, sound_read_back, trees_balanced}
 use Rattle.py_printing.proofs.laws.laws_of_expressions.Goals as goal
 
 pub returns-clause-shapes : goal.returns-clause-shapes
@@ -19,3 +19,6 @@ returns-clause-sound c = sound_read_back c.laws_of_spelling.ensures.read_back c.
 
 pub returns-clause-balanced : goal.returns-clause-balanced
 returns-clause-balanced c = trees_balanced c.laws_of_spelling.ensures.brackets
+
+pub returns-clause-own_shapes : goal.returns-clause-own_shapes
+returns-clause-own_shapes c = shapes_read_back

@@ -1,0 +1,5 @@
+pub mod Cutting
+pub mod Quiet
+pub mod Small
+pub mod SmallForms
+pub mod Starts

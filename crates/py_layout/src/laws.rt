@@ -1,0 +1,25 @@
+// The laws of layout.
+ghost use Rattle.py_layout.specs.Quiet.{ExpressionsAreQuiet};
+ghost use Rattle.py_layout.specs.Small.{SmallReadBack};
+ghost use Rattle.py_layout.specs.Starts.{ExpressionsBegin};
+
+use py_printing::{laws_of_expressions, laws_of_shapes};
+
+/// No separator of a line stands outside brackets in the tokens of an expression that any tokens are read as, and its brackets close. It
+/// begins with no token that begins a statement of another kind.
+pub fn laws_of_quiet()
+    ensures expressions { ExpressionsAreQuiet }
+    ensures starts { ExpressionsBegin }
+{
+    laws_of_expressions();
+    laws_of_shapes();
+}
+
+/// A small statement that any tokens are read as is read from the tokens that it is printed as, on any line, where the tokens of annotations
+/// are read back.
+pub fn law_of_small_statements()
+    ensures { SmallReadBack }
+{
+    laws_of_quiet();
+    laws_of_expressions();
+}

@@ -245,7 +245,6 @@ mark_all : (n : ℕ) (k : Symbol) (ts : List (List Symbol)) → QuietAt n (token
 mark_all n k [] b h = tt
 mark_all n k (t ∷ ts) b h = ((b, h.0), mark_all n k ts b h.1)
 
-
 -- ---- one level of a printed shape
 
 abbrev pub printed_by : Shape-F Shape → Printed

@@ -91,7 +91,7 @@ module _ (quiet : ExpressionsAreQuiet) (begins : ExpressionsBegin) (own : Shapes
     unfolding tree_at
     expr_back line level x r =
         let read : shape deepest level (symbols (expr_tokens level x)) ≡ Some (unnumbered x) =
-              subst (λ z. shape deepest level (symbols (Rattle.py_printing.specs.Texts.shape_tokens level z)) ≡ Some z) (sym r.shape) (own level r.ts r.tree r.read)
+        subst (λ z. shape deepest level (symbols (Rattle.py_printing.specs.Texts.shape_tokens level z)) ≡ Some z) (sym r.shape) (own level r.ts r.tree r.read)
         in ap (λ (o : Option Shape). (o >>= λ z. Some (numbered z 0).0) >>= λ y. Some (record { node = y.node; line = line; kind = y.kind })) read
 
     pub maybe_back : (line : ℕ) (level : Level) (x : Option Expr) → MaybeRead before level x → g.maybe line level (maybe_tokens level x) ≡ Some (option_map (fresh line) x)
@@ -105,9 +105,10 @@ module _ (quiet : ExpressionsAreQuiet) (begins : ExpressionsBegin) (own : Shapes
     -- ---- tokens in which a separator doesn't stand outside brackets
 
     whole_append : (p : Separator) (xs ys : List Token) → Whole p xs → Whole p ys → Whole p (xs ++ ys)
-    whole_append p xs ys f h =
-        (scan-append 0 xs ys ∙ ap (λ n. scan opened n ys) f.0 ∙ h.0,
-        passes-append p 0 xs ys f.1 (subst (λ n. Passes opened (outside p) n ys) (sym f.0) h.1))
+    whole_append p xs ys f h = (
+      scan-append 0 xs ys ∙ ap (λ n. scan opened n ys) f.0 ∙ h.0,
+      passes-append p 0 xs ys f.1 (subst (λ n. Passes opened (outside p) n ys) (sym f.0) h.1),
+    )
 
     whole_token : (p : Separator) (x : Token) (ys : List Token) → opened 0 x ≡ 0 → outside p 0 x ≡ false → Whole p ys → Whole p (x ∷ ys)
     whole_token p x ys o e h = whole_append p (x ∷ []) ys (o, (e, tt)) h

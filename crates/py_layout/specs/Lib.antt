@@ -1,3 +1,4 @@
+pub mod Examples
 pub mod Quiet
 pub mod Small
 pub mod Starts

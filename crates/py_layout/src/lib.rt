@@ -1,12 +1,15 @@
-//! How a module is laid out: the tokens of each of its lines, and that each line is read back.
+//! How a module is laid out: the tokens of its statements, and that they are read back.
 //!
-//! Definitions and laws alone. `specs/Quiet` says what keeps a printed expression whole where a line is cut: no separator of statements,
-//! targets or headers stands in it outside brackets. Nothing here is looked up or printed: the printer of modules is proved to write these
-//! lines.
+//! Definitions and laws alone. What keeps a printed expression whole where a line is cut is that no separator of statements, targets or
+//! headers stands in it outside brackets (`specs/Quiet`), and that it begins with no word that begins another statement (`specs/Starts`).
+//! So a small statement that any tokens are read as is read from its own tokens again (`specs/Small`). Suite files and modules are made of
+//! these lines. Nothing here is looked up or printed.
 //!
 //! It stands on `py_printing` and `py_grammar`.
 #![tactic(auto)]
 
+mod examples;
 mod laws;
 
+pub use examples::small_statements_by_example;
 pub use laws::{law_of_small_statements, laws_of_quiet};

@@ -1,4 +1,5 @@
 pub mod Cutting
+pub mod Headers
 pub mod Quiet
 pub mod Small
 pub mod SmallForms

@@ -122,7 +122,7 @@ unfolding outside
 not_outside p zero x e h = no_mark x p e (or_false (is_strict p) h)
 not_outside p (suc n) x e h = ap (λ v. v && marks p x) (some_open n)
 
-outside_deep : (p : Separator) (n : ℕ) (x : Token) → outside p (suc n) x ≡ false
+pub outside_deep : (p : Separator) (n : ℕ) (x : Token) → outside p (suc n) x ≡ false
 unfolding outside
 outside_deep p n x = ap (λ v. v && marks p x) (some_open n)
 

@@ -30,7 +30,7 @@ use Rattle.py_grammar.specs.Statements as g
 use Rattle.py_printing.specs.Expressions.{Given, args_of, kind_of, unnumbered, expr_tokens, ShapesReadBack}
 use Rattle.py_layout.specs.Quiet.{is_strict, is_absent, QuietAt, ExpressionsAreQuiet}
 use Rattle.py_layout.specs.Starts.{is_start, Begins, ExpressionsBegin}
-use Rattle.py_layout.specs.Small.{indexed, target_tokens, joined, list_tokens, augmenting_token, maybe_tokens, message_tokens, typed_tokens, small_by, small_tokens, fresh, fresh_target, fresh_by, fresh_small, Whole, is_round_annotations, ReadsBack, SmallReadBack}
+use Rattle.py_layout.specs.Small.{indexed, target_tokens, joined, list_tokens, augmenting_token, maybe_tokens, message_tokens, typed_tokens, small_by, small_tokens, fresh, fresh_target, fresh_by, fresh_small, Whole, is_never_in_annotations, ReadsBack, SmallReadBack}
 use Rattle.py_layout.proofs.Quiet.{quiet_append, plain_quiet, between, dotted, scan-append, passes-append}
 use Rattle.py_layout.proofs.Cutting.{front_pass, back_pass, pieces_pass, last_cut_pass, front_at, back_at, pieces_at, last_cut_at, none_behind}
 
@@ -81,13 +81,13 @@ module _ (quiet : ExpressionsAreQuiet) (begins : ExpressionsBegin) (own : Shapes
   tokens_same level x y e = ap (λ z. Rattle.py_printing.specs.Texts.shape_tokens level z) e
 
   module _ (before : ℕ) where
-    expr_quiet : (level : Level) (x : Expr) → ReadAt before level x → (n : ℕ) → QuietAt n (expr_tokens level x)
+    pub expr_quiet : (level : Level) (x : Expr) → ReadAt before level x → (n : ℕ) → QuietAt n (expr_tokens level x)
     expr_quiet level x r n = subst (QuietAt n) (sym (tokens_same level x r.tree r.shape)) (quiet level r.ts r.tree r.read n)
 
-    expr_begins : (level : Level) (x : Expr) → ReadAt before level x → Begins (expr_tokens level x)
+    pub expr_begins : (level : Level) (x : Expr) → ReadAt before level x → Begins (expr_tokens level x)
     expr_begins level x r = subst Begins (sym (tokens_same level x r.tree r.shape)) (begins level r.ts r.tree r.read)
 
-    expr_back : (line : ℕ) (level : Level) (x : Expr) → ReadAt before level x → g.expr_at line level (expr_tokens level x) ≡ Some (fresh line x)
+    pub expr_back : (line : ℕ) (level : Level) (x : Expr) → ReadAt before level x → g.expr_at line level (expr_tokens level x) ≡ Some (fresh line x)
     unfolding tree_at
     expr_back line level x r =
         let read : shape deepest level (symbols (expr_tokens level x)) ≡ Some (unnumbered x) =
@@ -104,16 +104,16 @@ module _ (quiet : ExpressionsAreQuiet) (begins : ExpressionsBegin) (own : Shapes
 
     -- ---- tokens in which a separator doesn't stand outside brackets
 
-    whole_append : (p : Separator) (xs ys : List Token) → Whole p xs → Whole p ys → Whole p (xs ++ ys)
+    pub whole_append : (p : Separator) (xs ys : List Token) → Whole p xs → Whole p ys → Whole p (xs ++ ys)
     whole_append p xs ys f h = (
       scan-append 0 xs ys ∙ ap (λ n. scan opened n ys) f.0 ∙ h.0,
       passes-append p 0 xs ys f.1 (subst (λ n. Passes opened (outside p) n ys) (sym f.0) h.1),
     )
 
-    whole_token : (p : Separator) (x : Token) (ys : List Token) → opened 0 x ≡ 0 → outside p 0 x ≡ false → Whole p ys → Whole p (x ∷ ys)
+    pub whole_token : (p : Separator) (x : Token) (ys : List Token) → opened 0 x ≡ 0 → outside p 0 x ≡ false → Whole p ys → Whole p (x ∷ ys)
     whole_token p x ys o e h = whole_append p (x ∷ []) ys (o, (e, tt)) h
 
-    quiet_whole : (p : Separator) (ts : List Token) → QuietAt 0 ts → is_strict p ≡ true → Whole p ts
+    pub quiet_whole : (p : Separator) (ts : List Token) → QuietAt 0 ts → is_strict p ≡ true → Whole p ts
     quiet_whole p ts q e = (q.closes, q.passes p (ap (λ v. v || Rattle.std.specs.Prelude.nat_lt 0 0) e))
 
     -- ---- targets
@@ -123,7 +123,7 @@ module _ (quiet : ExpressionsAreQuiet) (begins : ExpressionsBegin) (own : Shapes
     target_quiet (to.Attr of n) r = quiet_append 0 (expr_tokens Postfix of) _ (expr_quiet Postfix of r 0) (dotted n 0)
     target_quiet (to.Index of at) r = quiet_append 0 (expr_tokens Postfix of) _ (expr_quiet Postfix of r.0 0) (between Square 0 (expr_tokens Listed at) (expr_quiet Listed at r.1 1))
 
-    begins_more : (xs ys : List Token) → Begins xs → Begins (xs ++ ys)
+    pub begins_more : (xs ys : List Token) → Begins xs → Begins (xs ++ ys)
     begins_more xs ys b = record { first = b.first; rest = b.rest ++ ys; whole = ap (λ z. z ++ ys) b.whole; starts = b.starts }
 
     target_begins : (a : Target) → TargetRead before a → Begins (target_tokens a)
@@ -131,16 +131,16 @@ module _ (quiet : ExpressionsAreQuiet) (begins : ExpressionsBegin) (own : Shapes
     target_begins (to.Attr of n) r = begins_more (expr_tokens Postfix of) _ (expr_begins Postfix of r)
     target_begins (to.Index of at) r = begins_more (expr_tokens Postfix of) _ (expr_begins Postfix of r.0)
 
-    here : (p : Separator) (x : Token) → marks p x ≡ true → outside p 0 x ≡ true
+    pub here : (p : Separator) (x : Token) → marks p x ≡ true → outside p 0 x ≡ true
     unfolding outside
     here p x e = e
 
-    not_here : (p : Separator) (x : Token) → marks p x ≡ false → outside p 0 x ≡ false
+    pub not_here : (p : Separator) (x : Token) → marks p x ≡ false → outside p 0 x ≡ false
     unfolding outside
     not_here p x e = e
 
     -- a mark after tokens that close
-    mark_after : (p : Separator) (n : ℕ) (x : Token) → n ≡ 0 → marks p x ≡ true → outside p n x ≡ true
+    pub mark_after : (p : Separator) (n : ℕ) (x : Token) → n ≡ 0 → marks p x ≡ true → outside p n x ≡ true
     mark_after p n x e h = ap (λ k. outside p k x) e ∙ here p x h
 
     shut : (p : Separator) → outside p 1 (t.Mark m.RightBracket) ≡ false
@@ -211,16 +211,16 @@ module _ (quiet : ExpressionsAreQuiet) (begins : ExpressionsBegin) (own : Shapes
       whole_comma : (p : Separator) → marks p (t.Mark m.Comma) ≡ false → (xs ys : List Token) → Whole p xs → Whole p ys → Whole p (xs ++ t.Mark m.Comma ∷ ys)
       whole_comma p e xs ys f h = whole_append p xs (t.Mark m.Comma ∷ ys) f (whole_token p (t.Mark m.Comma) ys refl (not_here p (t.Mark m.Comma) e) h)
 
-      abbrev AllWhole : Separator → List (List Token) → Type 0
+      abbrev pub AllWhole : Separator → List (List Token) → Type 0
       AllWhole p [] = Unit {0}
       AllWhole p (xs ∷ more) = Whole p xs × AllWhole p more
 
-      joined_whole : (p : Separator) → marks p (t.Mark m.Comma) ≡ false → (parts : List (List Token)) → AllWhole p parts → Whole p (joined parts)
+      pub joined_whole : (p : Separator) → marks p (t.Mark m.Comma) ≡ false → (parts : List (List Token)) → AllWhole p parts → Whole p (joined parts)
       joined_whole p e [] h = (refl, tt)
       joined_whole p e (xs ∷ []) h = h.0
       joined_whole p e (xs ∷ ys ∷ more) h = whole_comma p e xs (joined (ys ∷ more)) h.0 (joined_whole p e (ys ∷ more) h.1)
 
-      list_whole : (p : Separator) → marks p (t.Mark m.Comma) ≡ false → (is_tuple : Bool) (parts : List (List Token)) → AllWhole p parts → Whole p (list_tokens is_tuple parts)
+      pub list_whole : (p : Separator) → marks p (t.Mark m.Comma) ≡ false → (is_tuple : Bool) (parts : List (List Token)) → AllWhole p parts → Whole p (list_tokens is_tuple parts)
       list_whole p e is_tuple [] h = (refl, tt)
       list_whole p e true (xs ∷ []) h = whole_comma p e xs [] h.0 (refl, tt)
       list_whole p e false (xs ∷ []) h = h.0
@@ -238,11 +238,11 @@ module _ (quiet : ExpressionsAreQuiet) (begins : ExpressionsBegin) (own : Shapes
           ∙ ap (λ z. xs ∷ map (λ (q : Token × List Token). q.1) z) (pieces_at opened (outside Comma) 0 xs (t.Mark m.Comma) ys h.1 e)
           ∙ ap (λ n. xs ∷ cut.front opened (outside Comma) (opened n (t.Mark m.Comma)) ys ∷ map (λ (q : Token × List Token). q.1) (cut.pieces opened (outside Comma) (opened n (t.Mark m.Comma)) ys)) h.0
 
-      split_joined : (xs : List Token) (more : List (List Token)) → AllWhole Comma (xs ∷ more) → split Comma (joined (xs ∷ more)) ≡ xs ∷ more
+      pub split_joined : (xs : List Token) (more : List (List Token)) → AllWhole Comma (xs ∷ more) → split Comma (joined (xs ∷ more)) ≡ xs ∷ more
       split_joined xs [] h = split_one xs h.0
       split_joined xs (ys ∷ more) h = split_comma xs (joined (ys ∷ more)) h.0 ∙ ap (λ z. xs ∷ z) (split_joined ys more h.1)
 
-      abbrev AllBegin : List (List Token) → Type 0
+      abbrev pub AllBegin : List (List Token) → Type 0
       AllBegin [] = Unit {0}
       AllBegin (xs ∷ more) = Begins xs × AllBegin more
 
@@ -253,30 +253,30 @@ module _ (quiet : ExpressionsAreQuiet) (begins : ExpressionsBegin) (own : Shapes
           by [] = refl
           by (ys ∷ more) = refl
 
-      trimmed_all : (parts : List (List Token)) → AllBegin parts → trimmed parts ≡ parts
+      pub trimmed_all : (parts : List (List Token)) → AllBegin parts → trimmed parts ≡ parts
       trimmed_all [] h = refl
       trimmed_all (xs ∷ more) h = trimmed_cons xs more h.0 ∙ ap (λ z. xs ∷ z) (trimmed_all more h.1)
 
       -- the parts of a list, in which one part is a tuple's or alone
-      list_parts : (is_tuple : Bool) (xs : List Token) (more : List (List Token)) → (is_tuple ≡ false → more ≡ []) → AllWhole Comma (xs ∷ more) → AllBegin (xs ∷ more)
+      pub list_parts : (is_tuple : Bool) (xs : List Token) (more : List (List Token)) → (is_tuple ≡ false → more ≡ []) → AllWhole Comma (xs ∷ more) → AllBegin (xs ∷ more)
           → trimmed (split Comma (list_tokens is_tuple (xs ∷ more))) ≡ xs ∷ more
       list_parts true xs [] one h b = ap trimmed (split_comma xs [] h.0) ∙ trimmed_cons xs ([] ∷ []) b.0
       list_parts false xs [] one h b = ap trimmed (split_one xs h.0) ∙ trimmed_cons xs [] b.0
       list_parts is_tuple xs (ys ∷ more) one h b = ap trimmed (split_joined xs (ys ∷ more) h) ∙ trimmed_all (xs ∷ ys ∷ more) b
 
       -- a comma is there where it is a tuple
-      list_has : (is_tuple : Bool) (xs : List Token) (more : List (List Token)) → (is_tuple ≡ false → more ≡ []) → AllWhole Comma (xs ∷ more) → has Comma (list_tokens is_tuple (xs ∷ more)) ≡ is_tuple
+      pub list_has : (is_tuple : Bool) (xs : List Token) (more : List (List Token)) → (is_tuple ≡ false → more ≡ []) → AllWhole Comma (xs ∷ more) → has Comma (list_tokens is_tuple (xs ∷ more)) ≡ is_tuple
       list_has true xs [] one h = ap is_some (back_at opened (outside Comma) 0 xs (t.Mark m.Comma) [] h.0.1 (mark_after Comma (scan opened 0 xs) (t.Mark m.Comma) h.0.0 refl))
       list_has false xs [] one h = ap is_some (back_pass opened (outside Comma) 0 xs h.0.1)
       list_has true xs (ys ∷ more) one h = ap is_some (back_at opened (outside Comma) 0 xs (t.Mark m.Comma) (joined (ys ∷ more)) h.0.1 (mark_after Comma (scan opened 0 xs) (t.Mark m.Comma) h.0.0 refl))
       list_has false xs (ys ∷ more) one h = absurd (let wrong : ys ∷ more ≡ [] = one refl in cc)
 
-      list_begins : (is_tuple : Bool) (xs : List Token) (more : List (List Token)) → Begins xs → Begins (list_tokens is_tuple (xs ∷ more))
+      pub list_begins : (is_tuple : Bool) (xs : List Token) (more : List (List Token)) → Begins xs → Begins (list_tokens is_tuple (xs ∷ more))
       list_begins true xs [] b = begins_more xs (t.Mark m.Comma ∷ []) b
       list_begins false xs [] b = b
       list_begins is_tuple xs (ys ∷ more) b = begins_more xs _ b
 
-      some_parts_of : {B : Type 0} (f : List Token → Option B) (ts : List Token) → Begins ts → some_parts Comma f ts ≡ parts Comma f ts
+      pub some_parts_of : {B : Type 0} (f : List Token → Option B) (ts : List Token) → Begins ts → some_parts Comma f ts ≡ parts Comma f ts
       some_parts_of f ts b = subst (λ z. some_parts Comma f z ≡ parts Comma f z) (sym b.whole) refl
 
       targets_whole : (p : Separator) → is_strict p ≡ true → (targets : List Target) → TargetsRead before targets → AllWhole p (map target_tokens targets)
@@ -325,7 +325,7 @@ module _ (quiet : ExpressionsAreQuiet) (begins : ExpressionsBegin) (own : Shapes
           ap (λ z. g.unannotated_by line (xs ++ x ∷ ys) z (back Assign (xs ++ x ∷ ys))) (front_at opened (outside Assign) 0 xs x ys h.1 m)
           ∙ ap (g.unannotated_by line (xs ++ x ∷ ys) xs) (back_at opened (outside Assign) 0 xs x ys h.1 m)
 
-      value_whole : (p : Separator) (x : Expr) → ReadAt before Listed x → is_strict p ≡ true → Whole p (expr_tokens Listed x)
+      pub value_whole : (p : Separator) (x : Expr) → ReadAt before Listed x → is_strict p ≡ true → Whole p (expr_tokens Listed x)
       value_whole p x r e = quiet_whole p (expr_tokens Listed x) (expr_quiet Listed x r 0) e
 
       pub bare_back : (x : Expr) → ReadAt before Listed x → g.small line (expr_tokens Listed x) ≡ Some (s.Bare (fresh line x))

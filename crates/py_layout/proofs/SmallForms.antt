@@ -32,7 +32,7 @@ use Rattle.py_grammar.specs.Statements as g
 use Rattle.py_printing.specs.Expressions.{Given, args_of, kind_of, unnumbered, expr_tokens, ShapesReadBack}
 use Rattle.py_layout.specs.Quiet.{is_strict, is_absent, QuietAt, ExpressionsAreQuiet}
 use Rattle.py_layout.specs.Starts.{is_start, Begins, ExpressionsBegin}
-use Rattle.py_layout.specs.Small.{indexed, target_tokens, joined, list_tokens, augmenting_token, maybe_tokens, message_tokens, typed_tokens, small_by, small_tokens, fresh, fresh_target, fresh_by, fresh_small, Whole, is_round_annotations, ReadsBack, SmallReadBack}
+use Rattle.py_layout.specs.Small.{indexed, target_tokens, joined, list_tokens, augmenting_token, maybe_tokens, message_tokens, typed_tokens, small_by, small_tokens, fresh, fresh_target, fresh_by, fresh_small, Whole, is_never_in_annotations, ReadsBack, SmallReadBack}
 use Rattle.py_layout.proofs.Quiet.{quiet_append, plain_quiet, between, dotted, scan-append, passes-append}
 use Rattle.py_layout.proofs.Cutting.{front_pass, back_pass, pieces_pass, last_cut_pass, front_at, back_at, pieces_at, last_cut_at, none_behind}
 use Rattle.py_layout.proofs.Small.{some_bind, some_is, ReadAt, read_at, MaybeRead, TargetRead, TargetsRead, maybe_back, assign_back, augment_back, typed_back, assert_back, delete_back, bare_back}
@@ -40,7 +40,7 @@ use Rattle.py_layout.proofs.Small.{some_bind, some_is, ReadAt, read_at, MaybeRea
 module _ (before : ℕ) where
   -- ---- the parts
 
-  maybe_read : (level : Level) (ts : List Token) (x : Option Expr) → g.maybe before level ts ≡ Some x → MaybeRead before level x
+  pub maybe_read : (level : Level) (ts : List Token) (x : Option Expr) → g.maybe before level ts ≡ Some x → MaybeRead before level x
   maybe_read level [] x e = subst (MaybeRead before level) (some_is None x e) tt
   maybe_read level (y ∷ ys) x e =
       let f = some_bind (g.expr_at before level (y ∷ ys)) (λ z. Some (Some z)) x e in
@@ -88,38 +88,38 @@ module _ (before : ℕ) where
   trimmed_filled x xs [] = refl
   trimmed_filled x xs (ys ∷ more) = refl
 
-  abbrev Filled : List (List Token) → Type 0
+  abbrev pub Filled : List (List Token) → Type 0
   Filled ts = (z : List Token) × ((zs : List (List Token)) × (ts ≡ z ∷ zs))
 
-  split_filled : (x : Token) (xs : List Token) → Filled (trimmed (split Comma (x ∷ xs)))
+  pub split_filled : (x : Token) (xs : List Token) → Filled (trimmed (split Comma (x ∷ xs)))
   split_filled x xs = by (outside Comma 0 x)
     where
       by : (v : Bool) → Filled (trimmed (cond v [] (x ∷ cut.front opened (outside Comma) (opened 0 x) xs) ∷ map (λ (q : Token × List Token). q.1) (cond v ((x, cut.front opened (outside Comma) (opened 0 x) xs) ∷ cut.pieces opened (outside Comma) (opened 0 x) xs) (cut.pieces opened (outside Comma) (opened 0 x) xs))))
       by true = ([], (_, refl))
       by false = (x ∷ cut.front opened (outside Comma) (opened 0 x) xs, (_, trimmed_filled x _ _))
 
-  each_filled : (parts : List (List Token)) (targets : List Target) → Filled parts → each (g.target before) parts ≡ Some targets → (a : Target) × ((more : List Target) × (targets ≡ a ∷ more))
-  each_filled parts targets f e =
-      let e' : each (g.target before) (f.0 ∷ f.1.0) ≡ Some targets = ap (each (g.target before)) (sym f.1.1) ∙ e in
-      let h = some_bind (g.target before f.0) (λ first. each (g.target before) f.1.0 >>= λ others. Some (first ∷ others)) targets e' in
-      let j = some_bind (each (g.target before) f.1.0) (λ others. Some (h.0 ∷ others)) targets h.1.1 in
-      (h.0, (j.0, sym (some_is (h.0 ∷ j.0) targets j.1.1)))
+  pub each_filled : {B : Type 0} (f : List Token → Option B) (parts : List (List Token)) (all : List B) → Filled parts → each f parts ≡ Some all → (a : B) × ((more : List B) × (all ≡ a ∷ more))
+  each_filled f parts all w e =
+      let e' : each f (w.0 ∷ w.1.0) ≡ Some all = ap (each f) (sym w.1.1) ∙ e in
+      let h = some_bind (f w.0) (λ first. each f w.1.0 >>= λ others. Some (first ∷ others)) all e' in
+      let j = some_bind (each f w.1.0) (λ others. Some (h.0 ∷ others)) all h.1.1 in
+      (h.0, (j.0, sym (some_is (h.0 ∷ j.0) all j.1.1)))
 
   none_there : (ts : List Token) → is_some ts ≡ false → ts ≡ []
   none_there [] e = refl
   none_there (x ∷ xs) e = absurd (cc)
 
   -- without a comma there is one part
-  lone_part : (x : Token) (xs : List Token) → has Comma (x ∷ xs) ≡ false → trimmed (split Comma (x ∷ xs)) ≡ (x ∷ xs) ∷ []
+  pub lone_part : (x : Token) (xs : List Token) → has Comma (x ∷ xs) ≡ false → trimmed (split Comma (x ∷ xs)) ≡ (x ∷ xs) ∷ []
   lone_part x xs e =
       let h = none_behind opened (outside Comma) 0 (x ∷ xs) (none_there (back Comma (x ∷ xs)) e) in
       ap (λ z. trimmed (z ∷ map (λ (q : Token × List Token). q.1) (cut.pieces opened (outside Comma) 0 (x ∷ xs)))) (front_pass opened (outside Comma) 0 (x ∷ xs) h)
       ∙ ap (λ z. trimmed ((x ∷ xs) ∷ map (λ (q : Token × List Token). q.1) z)) (pieces_pass opened (outside Comma) 0 (x ∷ xs) h)
 
-  lone_target : (parts : List (List Token)) (ts : List Token) (a : Target) (more : List Target) → parts ≡ ts ∷ [] → each (g.target before) parts ≡ Some (a ∷ more) → more ≡ []
-  lone_target parts ts a more is e =
-      let e' : each (g.target before) (ts ∷ []) ≡ Some (a ∷ more) = ap (each (g.target before)) (sym is) ∙ e in
-      let h = some_bind (g.target before ts) (λ first. Some (first ∷ [])) (a ∷ more) e' in
+  pub lone_one : {B : Type 0} (f : List Token → Option B) (parts : List (List Token)) (ts : List Token) (a : B) (more : List B) → parts ≡ ts ∷ [] → each f parts ≡ Some (a ∷ more) → more ≡ []
+  lone_one f parts ts a more is e =
+      let e' : each f (ts ∷ []) ≡ Some (a ∷ more) = ap (each f) (sym is) ∙ e in
+      let h = some_bind (f ts) (λ first. Some (first ∷ [])) (a ∷ more) e' in
       let j = some_is (h.0 ∷ []) (a ∷ more) h.1.1 in
       (let k : more ≡ [] = cc in k)
 
@@ -151,10 +151,10 @@ module _ (before : ℕ) where
       let F = y ∷ ys in
       let f = some_bind (some_parts Comma (g.target before) F) (λ targets. g.exprs before xs >>= λ value. Some (s.Assign targets (has Comma F) None value)) kind e in
       let h = some_bind (g.exprs before xs) (λ value. Some (s.Assign f.0 (has Comma F) None value)) kind f.1.1 in
-      let n = each_filled (trimmed (split Comma F)) f.0 (split_filled y ys) f.1.0 in
+      let n = each_filled (g.target before) (trimmed (split Comma F)) f.0 (split_filled y ys) f.1.0 in
       let parts : each (g.target before) (trimmed (split Comma F)) ≡ Some (n.0 ∷ n.1.0) = f.1.0 ∙ ap Some n.1.1 in
       of_assign n.0 n.1.0 (has Comma F) h.0 (sym (some_is _ kind h.1.1) ∙ ap (λ targets. s.Assign targets (has Comma F) None h.0) n.1.1)
-      (λ w. lone_target (trimmed (split Comma F)) F n.0 n.1.0 (lone_part y ys w) parts)
+      (λ w. lone_one (g.target before) (trimmed (split Comma F)) F n.0 n.1.0 (lone_part y ys w) parts)
       (each_read (trimmed (split Comma F)) (n.0 ∷ n.1.0) parts) (read_at before Listed xs h.0 h.1.0)
 
   augmented_form : (ahead : List Token) (x : Token) (xs : List Token) (kind : StmtKind) → g.augmented before ahead x xs ≡ Some kind → SmallForm kind

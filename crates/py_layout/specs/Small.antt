@@ -116,14 +116,14 @@ abbrev pub Whole : Separator → List Token → Type 0
 Whole p ts = (scan opened 0 ts ≡ 0) × Passes opened (outside p) 0 ts
 
 -- the separators that no annotation has outside brackets
-abbrev pub is_round_annotations : Separator → Bool
-is_round_annotations Pipe = false
-is_round_annotations p = is_strict p
+abbrev pub is_never_in_annotations : Separator → Bool
+is_never_in_annotations Pipe = false
+is_never_in_annotations p = is_strict p
 
 -- tokens of annotations that are read back
 pub record ReadsBack (annotated : Annotation → List Token) : Type 0 where
   pub back : (ts : List Token) (a : Annotation) → annotation ts ≡ Some a → annotation (annotated a) ≡ Some a
-  pub whole : (ts : List Token) (a : Annotation) → annotation ts ≡ Some a → (p : Separator) → is_round_annotations p ≡ true → Whole p (annotated a)
+  pub whole : (ts : List Token) (a : Annotation) → annotation ts ≡ Some a → (p : Separator) → is_never_in_annotations p ≡ true → Whole p (annotated a)
 
 -- a small statement that any tokens are read as is read from its own tokens, on any line
 abbrev pub SmallReadBack : Type 0

@@ -1,4 +1,5 @@
 // The laws of layout.
+ghost use Rattle.py_layout.specs.Headers.{HeadersReadBack};
 ghost use Rattle.py_layout.specs.Quiet.{ExpressionsAreQuiet};
 ghost use Rattle.py_layout.specs.Small.{SmallReadBack};
 ghost use Rattle.py_layout.specs.Starts.{ExpressionsBegin};
@@ -19,6 +20,15 @@ pub fn laws_of_quiet()
 /// are read back.
 pub fn law_of_small_statements()
     ensures { SmallReadBack }
+{
+    laws_of_quiet();
+    laws_of_expressions();
+}
+
+/// A header of a compound statement that any tokens are read as, with whatever is on its line, is read from the tokens that it is printed as,
+/// on any line and with nothing after its colon, where the tokens of annotations are read back.
+pub fn law_of_headers()
+    ensures { HeadersReadBack }
 {
     laws_of_quiet();
     laws_of_expressions();

@@ -356,7 +356,7 @@ module _ (before : ℕ) where
   names_filled : (ts : List Token) (names : List (List ℕ)) → some_parts Comma g.name ts ≡ Some names → (n : List ℕ) × ((more : List (List ℕ)) × ((names ≡ n ∷ more) × (has Comma ts ≡ false → more ≡ [])))
   names_filled [] names e = absurd (cc)
   names_filled (y ∷ ys) names e =
-      let w = each_filled before g.name (trimmed (split Comma (y ∷ ys))) names (split_filled before y ys) e in
+      let w = each_filled before g.name (trimmed (split Comma (y ∷ ys))) names (split_filled before Comma y ys) e in
       (w.0, (w.1.0, (w.1.1, λ o. lone_one before g.name (trimmed (split Comma (y ∷ ys))) (y ∷ ys) w.0 w.1.0 (lone_part before y ys o) (e ∙ ap Some w.1.1))))
 
   for_form : (ahead rest : List Token) (header : Header) → f.for_by before ahead rest ≡ Some header → HeaderForm header
@@ -430,10 +430,10 @@ module _ (before : ℕ) where
   class_form (t.Name n ∷ t.Mark m.LeftParen ∷ xs) header e = let b = some_bind (f.base xs) (λ z. Some (h.Class n z)) header e in of_class n b.0 (sym (some_is (h.Class n b.0) header b.1.1))
   class_form _ header e = absurd (cc)
 
-  same_header : (made header : Header) (small body : Option (List Stmt)) → Some (Compound made body) ≡ Some (Compound header small) → made ≡ header
+  pub same_header : (made header : Header) (small body : Option (List Stmt)) → Some (Compound made body) ≡ Some (Compound header small) → made ≡ header
   same_header made header small body e = cc
 
-  compound_read : (make : List Token → Option Header) (ahead rest : List Token) (header : Header) (small : Option (List Stmt)) → f.compound_by before make ahead rest ≡ Some (Compound header small) → make ahead ≡ Some header
+  pub compound_read : (make : List Token → Option Header) (ahead rest : List Token) (header : Header) (small : Option (List Stmt)) → f.compound_by before make ahead rest ≡ Some (Compound header small) → make ahead ≡ Some header
   compound_read make ahead [] header small e = absurd (cc)
   compound_read make ahead (x ∷ xs) header small e =
       let a = some_bind (make ahead) (λ found. f.block before xs >>= λ body. Some (Compound found body)) (Compound header small) e in
@@ -441,7 +441,7 @@ module _ (before : ℕ) where
       a.1.0 ∙ ap Some (same_header a.0 header small b.0 b.1.1)
 
   -- an import line, and small statements, are no compound statement
-  neither : (b : Bool) (x y z : Option Form) → (x ≡ z → ⊥) → (y ≡ z → ⊥) → (if b then x else y) ≡ z → ⊥
+  pub neither : (b : Bool) (x y z : Option Form) → (x ≡ z → ⊥) → (y ≡ z → ⊥) → (if b then x else y) ≡ z → ⊥
   neither true x y z p q e = p e
   neither false x y z p q e = q e
 
@@ -453,13 +453,13 @@ module _ (before : ℕ) where
   typing_no : (o : Option (List (List ℕ))) (header : Header) (small : Option (List Stmt)) → (o >>= λ names. Some (Typing names)) ≡ Some (Compound header small) → ⊥
   typing_no o header small e = let a = some_bind o (λ names. Some (Typing names)) (Compound header small) e in (let w : Some (Typing a.0) ≡ Some (Compound header small) = a.1.1 in cc)
 
-  import_no : (ts : List Token) (header : Header) (small : Option (List Stmt)) → f.import ts ≡ Some (Compound header small) → ⊥
+  pub import_no : (ts : List Token) (header : Header) (small : Option (List Stmt)) → f.import ts ≡ Some (Compound header small) → ⊥
   import_no (t.Name n ∷ t.Keyword k.Import ∷ xs) header small e =
       neither (bytes_eq n (codes "__future__")) _ _ (Some (Compound header small)) (future_no (g.name xs) header small)
       (neither (bytes_eq n (codes "typing")) _ _ (Some (Compound header small)) (typing_no (f.imported xs) header small) (λ w. cc)) e
   import_no _ header small e = cc
 
-  simple_no : (o : Option (List Stmt)) (header : Header) (small : Option (List Stmt)) → (o >>= λ all. Some (Simple all)) ≡ Some (Compound header small) → ⊥
+  pub simple_no : (o : Option (List Stmt)) (header : Header) (small : Option (List Stmt)) → (o >>= λ all. Some (Simple all)) ≡ Some (Compound header small) → ⊥
   simple_no o header small e = let a = some_bind o (λ all. Some (Simple all)) (Compound header small) e in (let w : Some (Simple a.0) ≡ Some (Compound header small) = a.1.1 in cc)
 
   by_test : (made : Expr → Header) (xs : List Token) (header : Header) (small : Option (List Stmt)) → f.compound before (f.tested before made) xs ≡ Some (Compound header small) → (test : Expr) × ((header ≡ made test) × ReadAt before Conditional test)
@@ -500,7 +500,7 @@ module _ (quiet : ExpressionsAreQuiet) (begins : ExpressionsBegin) (own : Shapes
   returns_read None r = tt
   returns_read (Some a) r = r
 
-  header_back : (header : Header) → HeaderForm before header → Back header
+  pub header_back : (header : Header) → HeaderForm before header → Back header
   header_back header (of_if test is r) = subst Back (sym is) (tested_back quiet begins own annotated reads before line h.If test r)
   header_back header (of_elif test is r) = subst Back (sym is) (tested_back quiet begins own annotated reads before line h.Elif test r)
   header_back header (of_else is) = subst Back (sym is) (alone_back quiet begins own annotated reads before line h.Else)

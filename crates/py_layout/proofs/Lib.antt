@@ -1,6 +1,13 @@
+pub mod BlockBack
+pub mod BlockForms
+pub mod BlockReading
 pub mod Cutting
+pub mod Erasing
 pub mod Headers
+pub mod Members
 pub mod Quiet
+pub mod RowLevels
 pub mod Small
 pub mod SmallForms
+pub mod SmallLines
 pub mod Starts

@@ -46,7 +46,7 @@ some_is a b e = cc
 -- ---- expressions
 
 -- the shape has neither number nor line
-shape_of_kind : (x y : Expr) → x.kind ≡ y.kind → unnumbered x ≡ unnumbered y
+pub shape_of_kind : (x y : Expr) → x.kind ≡ y.kind → unnumbered x ≡ unnumbered y
 unfolding unnumbered
 shape_of_kind x y e = fold_out-Expr Shape Given Shape kind_of args_of (λ f. f.kind) x ∙ ap (λ kind. Rattle.py_syntax.specs.declared.expr.ExprKind.fold-ExprKind Shape Given Shape kind_of args_of (λ f. f.kind) kind) e ∙ sym (fold_out-Expr Shape Given Shape kind_of args_of (λ f. f.kind) y)
 
@@ -118,7 +118,7 @@ module _ (quiet : ExpressionsAreQuiet) (begins : ExpressionsBegin) (own : Shapes
 
     -- ---- targets
 
-    target_quiet : (a : Target) → TargetRead before a → QuietAt 0 (target_tokens a)
+    pub target_quiet : (a : Target) → TargetRead before a → QuietAt 0 (target_tokens a)
     target_quiet (to.Name n) r = plain_quiet (t.Name n) (λ n. refl) refl 0
     target_quiet (to.Attr of n) r = quiet_append 0 (expr_tokens Postfix of) _ (expr_quiet Postfix of r 0) (dotted n 0)
     target_quiet (to.Index of at) r = quiet_append 0 (expr_tokens Postfix of) _ (expr_quiet Postfix of r.0 0) (between Square 0 (expr_tokens Listed at) (expr_quiet Listed at r.1 1))
@@ -126,7 +126,7 @@ module _ (quiet : ExpressionsAreQuiet) (begins : ExpressionsBegin) (own : Shapes
     pub begins_more : (xs ys : List Token) → Begins xs → Begins (xs ++ ys)
     begins_more xs ys b = record { first = b.first; rest = b.rest ++ ys; whole = ap (λ z. z ++ ys) b.whole; starts = b.starts }
 
-    target_begins : (a : Target) → TargetRead before a → Begins (target_tokens a)
+    pub target_begins : (a : Target) → TargetRead before a → Begins (target_tokens a)
     target_begins (to.Name n) r = record { first = t.Name n; rest = []; whole = refl; starts = refl }
     target_begins (to.Attr of n) r = begins_more (expr_tokens Postfix of) _ (expr_begins Postfix of r)
     target_begins (to.Index of at) r = begins_more (expr_tokens Postfix of) _ (expr_begins Postfix of r.0)
@@ -279,7 +279,7 @@ module _ (quiet : ExpressionsAreQuiet) (begins : ExpressionsBegin) (own : Shapes
       pub some_parts_of : {B : Type 0} (f : List Token → Option B) (ts : List Token) → Begins ts → some_parts Comma f ts ≡ parts Comma f ts
       some_parts_of f ts b = subst (λ z. some_parts Comma f z ≡ parts Comma f z) (sym b.whole) refl
 
-      targets_whole : (p : Separator) → is_strict p ≡ true → (targets : List Target) → TargetsRead before targets → AllWhole p (map target_tokens targets)
+      pub targets_whole : (p : Separator) → is_strict p ≡ true → (targets : List Target) → TargetsRead before targets → AllWhole p (map target_tokens targets)
       targets_whole p e [] r = tt
       targets_whole p e (a ∷ more) r = (quiet_whole p (target_tokens a) (target_quiet a r.0) e, targets_whole p e more r.1)
 

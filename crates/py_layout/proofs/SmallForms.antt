@@ -91,12 +91,12 @@ module _ (before : ℕ) where
   abbrev pub Filled : List (List Token) → Type 0
   Filled ts = (z : List Token) × ((zs : List (List Token)) × (ts ≡ z ∷ zs))
 
-  pub split_filled : (x : Token) (xs : List Token) → Filled (trimmed (split Comma (x ∷ xs)))
-  split_filled x xs = by (outside Comma 0 x)
+  pub split_filled : (p : Separator) (x : Token) (xs : List Token) → Filled (trimmed (split p (x ∷ xs)))
+  split_filled p x xs = by (outside p 0 x)
     where
-      by : (v : Bool) → Filled (trimmed (cond v [] (x ∷ cut.front opened (outside Comma) (opened 0 x) xs) ∷ map (λ (q : Token × List Token). q.1) (cond v ((x, cut.front opened (outside Comma) (opened 0 x) xs) ∷ cut.pieces opened (outside Comma) (opened 0 x) xs) (cut.pieces opened (outside Comma) (opened 0 x) xs))))
+      by : (v : Bool) → Filled (trimmed (cond v [] (x ∷ cut.front opened (outside p) (opened 0 x) xs) ∷ map (λ (q : Token × List Token). q.1) (cond v ((x, cut.front opened (outside p) (opened 0 x) xs) ∷ cut.pieces opened (outside p) (opened 0 x) xs) (cut.pieces opened (outside p) (opened 0 x) xs))))
       by true = ([], (_, refl))
-      by false = (x ∷ cut.front opened (outside Comma) (opened 0 x) xs, (_, trimmed_filled x _ _))
+      by false = (x ∷ cut.front opened (outside p) (opened 0 x) xs, (_, trimmed_filled x _ _))
 
   pub each_filled : {B : Type 0} (f : List Token → Option B) (parts : List (List Token)) (all : List B) → Filled parts → each f parts ≡ Some all → (a : B) × ((more : List B) × (all ≡ a ∷ more))
   each_filled f parts all w e =
@@ -151,7 +151,7 @@ module _ (before : ℕ) where
       let F = y ∷ ys in
       let f = some_bind (some_parts Comma (g.target before) F) (λ targets. g.exprs before xs >>= λ value. Some (s.Assign targets (has Comma F) None value)) kind e in
       let h = some_bind (g.exprs before xs) (λ value. Some (s.Assign f.0 (has Comma F) None value)) kind f.1.1 in
-      let n = each_filled (g.target before) (trimmed (split Comma F)) f.0 (split_filled y ys) f.1.0 in
+      let n = each_filled (g.target before) (trimmed (split Comma F)) f.0 (split_filled Comma y ys) f.1.0 in
       let parts : each (g.target before) (trimmed (split Comma F)) ≡ Some (n.0 ∷ n.1.0) = f.1.0 ∙ ap Some n.1.1 in
       of_assign n.0 n.1.0 (has Comma F) h.0 (sym (some_is _ kind h.1.1) ∙ ap (λ targets. s.Assign targets (has Comma F) None h.0) n.1.1)
       (λ w. lone_one (g.target before) (trimmed (split Comma F)) F n.0 n.1.0 (lone_part y ys w) parts)
@@ -232,7 +232,7 @@ module _ (quiet : ExpressionsAreQuiet) (begins : ExpressionsBegin) (own : Shapes
       → g.small line (small_by annotated level) ≡ Some (fresh_by line kind level) → g.small line (small_tokens annotated kind) ≡ Some (fresh_small line kind)
   by_level kind made level is out h = subst (λ z. g.small line (small_by annotated z) ≡ Some (fresh_by line kind z)) (sym (ap out-StmtKind is ∙ out)) h
 
-  form_back : (kind : StmtKind) → SmallForm before kind → g.small line (small_tokens annotated kind) ≡ Some (fresh_small line kind)
+  pub form_back : (kind : StmtKind) → SmallForm before kind → g.small line (small_tokens annotated kind) ≡ Some (fresh_small line kind)
   form_back kind (of_pass is) = by_level kind _ _ is outs-Pass (ap Some (sym is))
   form_back kind (of_break is) = by_level kind _ _ is outs-Break (ap Some (sym is))
   form_back kind (of_continue is) = by_level kind _ _ is outs-Continue (ap Some (sym is))

@@ -69,7 +69,7 @@ module _ (annotated : Annotation → List Token) where
   typed_tokens None = []
   typed_tokens (Some a) = t.Mark m.Colon ∷ annotated a
 
-  abbrev pub small_by : StmtKind-F StmtKind Clause Stmt → List Token
+  abbrev pub small_by : {X C S : Type 0} → StmtKind-F X C S → List Token
   small_by StmtKind-F.Pass = t.Keyword k.Pass ∷ []
   small_by StmtKind-F.Break = t.Keyword k.Break ∷ []
   small_by StmtKind-F.Continue = t.Keyword k.Continue ∷ []

@@ -1,4 +1,5 @@
 // The laws of layout.
+ghost use Rattle.py_layout.specs.Blocks.{BlocksReadBack};
 ghost use Rattle.py_layout.specs.Headers.{HeadersReadBack};
 ghost use Rattle.py_layout.specs.Quiet.{ExpressionsAreQuiet};
 ghost use Rattle.py_layout.specs.Small.{SmallReadBack};
@@ -29,6 +30,15 @@ pub fn law_of_small_statements()
 /// on any line and with nothing after its colon, where the tokens of annotations are read back.
 pub fn law_of_headers()
     ensures { HeadersReadBack }
+{
+    laws_of_quiet();
+    laws_of_expressions();
+}
+
+/// What any lines are read as a block is read from the lines that it is printed as, at any column and wherever they are in a text: the same
+/// statements, up to lines and node numbers, where the tokens of annotations are read back.
+pub fn law_of_blocks()
+    ensures { BlocksReadBack }
 {
     laws_of_quiet();
     laws_of_expressions();

@@ -85,8 +85,17 @@ use Rattle.py_layout.proofs.SmallLines.{SmallLine, no_continuing, line_form, sma
 
 -- ---- lists of lines
 
-cons_is : {A : Type 0} (x y : A) (xs ys : List A) → x ∷ xs ≡ y ∷ ys → (x ≡ y) × (xs ≡ ys)
+pub cons_is : {A : Type 0} (x y : A) (xs ys : List A) → x ∷ xs ≡ y ∷ ys → (x ≡ y) × (xs ≡ ys)
 cons_is x y xs ys e = (cc, cc)
+
+-- the forms of statements that may be in any block
+abbrev pub is_plain_form : Form → Bool
+is_plain_form (Simple all) = true
+is_plain_form (Compound (h.If test) small) = true
+is_plain_form (Compound (h.While test) small) = true
+is_plain_form (Compound (h.For names is_tuple walked) small) = true
+is_plain_form (Compound h.Try small) = true
+is_plain_form _ = false
 
 pub record Split (ls : List Logical) (xs ys : Rows) : Type 0 where
   pub first : List Logical
@@ -95,7 +104,7 @@ pub record Split (ls : List Logical) (xs ys : Rows) : Type 0 where
   pub shows : map shown first ≡ xs
   pub shows_rest : map shown rest ≡ ys
 
-split_rows : (ls : List Logical) (xs ys : Rows) → map shown ls ≡ xs ++ ys → Split ls xs ys
+pub split_rows : (ls : List Logical) (xs ys : Rows) → map shown ls ≡ xs ++ ys → Split ls xs ys
 split_rows ls [] ys e = record { first = []; rest = ls; whole = refl; shows = refl; shows_rest = e }
 split_rows [] (x ∷ xs) ys e = absurd (cc)
 split_rows (l ∷ ls) (x ∷ xs) ys e =
@@ -103,39 +112,39 @@ split_rows (l ∷ ls) (x ∷ xs) ys e =
     let r = split_rows ls xs ys c.1 in
     record { first = l ∷ r.first; rest = r.rest; whole = ap (λ z. l ∷ z) r.whole; shows = ap (λ z. z ∷ map shown r.first) c.0 ∙ ap (λ z. x ∷ z) r.shows; shows_rest = r.shows_rest }
 
-abbrev FromOn : ℕ → List Logical → Type 0
+abbrev pub FromOn : ℕ → List Logical → Type 0
 FromOn column ls = Every (λ (l : Logical). column ≤ l.column) ls
 
-from_append : (column : ℕ) (xs ys : List Logical) → FromOn column xs → FromOn column ys → FromOn column (xs ++ ys)
+pub from_append : (column : ℕ) (xs ys : List Logical) → FromOn column xs → FromOn column ys → FromOn column (xs ++ ys)
 from_append column [] ys r q = q
 from_append column (x ∷ xs) ys r q = (r.0, from_append column xs ys r.1 q)
 
-from_less : (column : ℕ) (xs : List Logical) → FromOn (column + indent) xs → FromOn column xs
+pub from_less : (column : ℕ) (xs : List Logical) → FromOn (column + indent) xs → FromOn column xs
 from_less column [] r = tt
 from_less column (x ∷ xs) r = (less column x.column r.0, from_less column xs r.1)
   where
     less : (a b : ℕ) → a + 4 ≤ b → a ≤ b
     less a b h = omega arith
 
-deeper : (column : ℕ) (xs : List Logical) → FromOn (column + indent) xs → AllOut (is_shallow column) xs
+pub deeper : (column : ℕ) (xs : List Logical) → FromOn (column + indent) xs → AllOut (is_shallow column) xs
 deeper column [] r = tt
 deeper column (x ∷ xs) r = (over column x.column r.0, deeper column xs r.1)
   where
     over : (a b : ℕ) → a + 4 ≤ b → Rattle.std.specs.Prelude.nat_le b a ≡ false
     over a b h = grind (arith, Rattle.std.proofs.lemmas.Bool.Decides.nat_tests)
 
-lines_append : (ms ns : List Member) → lines_of (ms ++ ns) ≡ lines_of ms ++ lines_of ns
+pub lines_append : (ms ns : List Member) → lines_of (ms ++ ns) ≡ lines_of ms ++ lines_of ns
 lines_append [] ns = refl
 lines_append (m ∷ ms) ns = ap (λ z. m.0 ∷ (m.1 ++ z)) (lines_append ms ns) ∙ ap (λ z. m.0 ∷ z) (sym (append_assoc m.1 (lines_of ms) (lines_of ns)))
 
-behind_none : {A : Type 0} (xs : List A) → behind xs None ≡ None
+pub behind_none : {A : Type 0} (xs : List A) → behind xs None ≡ None
 behind_none [] = refl
 behind_none (x ∷ xs) = refl
 
-same_number : (n : ℕ) → (n == n) ≡ true
+pub same_number : (n : ℕ) → (n == n) ≡ true
 same_number n = grind (arith, Rattle.std.proofs.lemmas.Bool.Decides.nat_tests)
 
-form_as : (l : Logical) (ts : List Token) (o : Option Form) → l.tokens ≡ ts → f.form l.line ts ≡ o → f.form_of l ≡ o
+pub form_as : (l : Logical) (ts : List Token) (o : Option Form) → l.tokens ≡ ts → f.form l.line ts ≡ o → f.form_of l ≡ o
 unfolding f.form_of
 form_as l ts o is e = ap (f.form l.line) is ∙ e
 
@@ -143,7 +152,7 @@ module _ (quiet : ExpressionsAreQuiet) (begins : ExpressionsBegin) (own : Shapes
   abbrev rows : Stmt → Placed
   rows = rows_of annotated
 
-  placed_is : (column : ℕ) (body : List Stmt) → placed column (map rows body) ≡ block_rows annotated column body
+  pub placed_is : (column : ℕ) (body : List Stmt) → placed column (map rows body) ≡ block_rows annotated column body
   placed_is column [] = refl
   placed_is column (x ∷ xs) = ap (λ z. rows x column ++ z) (placed_is column xs)
 
@@ -172,7 +181,7 @@ module _ (quiet : ExpressionsAreQuiet) (begins : ExpressionsBegin) (own : Shapes
       deeper_is : (l : Logical) (ds : List Logical) → HasOne ds → compounds.deeper_block place room inner None l ds ≡ inner None ds
       deeper_is l ds one = subst (λ z. compounds.deeper_block place room inner None l z ≡ inner None z) (sym one.1.1) refl
 
-      headed_back : (column : ℕ) (header : Header) (body : List Stmt) (ls : List Logical) → P body → map shown ls ≡ headed annotated column header (map rows body) → HeadedBack column header ls body
+      pub headed_back : (column : ℕ) (header : Header) (body : List Stmt) (ls : List Logical) → P body → map shown ls ≡ headed annotated column header (map rows body) → HeadedBack column header ls body
       headed_back column header body [] p e = absurd (cc)
       headed_back column header body (l ∷ ds) p e =
           let c = cons_is (shown l) (row column (header_tokens annotated header)) (map shown ds) (placed (column + indent) (map rows body)) e in
@@ -192,7 +201,7 @@ module _ (quiet : ExpressionsAreQuiet) (begins : ExpressionsBegin) (own : Shapes
           from_here : (a b : ℕ) → b ≡ a → a ≤ b
           from_here a b h = omega arith
 
-      header_form_of : (column : ℕ) (header : Header) (ls : List Logical) (body : List Stmt) (before : ℕ) (b : HeadedBack column header ls body) → HeaderForm before header
+      pub header_form_of : (column : ℕ) (header : Header) (ls : List Logical) (body : List Stmt) (before : ℕ) (b : HeadedBack column header ls body) → HeaderForm before header
           → f.form_of b.member.0 ≡ Some (Compound (fresh_header b.member.0.line header) None)
       header_form_of column header ls body before b r = form_as b.member.0 (header_tokens annotated header) (Some (Compound (fresh_header b.member.0.line header) None)) b.tokens (header_back quiet begins own annotated reads before b.member.0.line header r)
 
@@ -514,6 +523,10 @@ module _ (quiet : ExpressionsAreQuiet) (begins : ExpressionsBegin) (own : Shapes
         pub lines : ls ≡ lines_of (group.0 ∷ group.1)
         pub at : GroupAt column group
         pub made : Stmt
+        pub form : Form
+        pub formed : f.form_of group.0.0 ≡ Some form
+        pub plain : is_plain_form form ≡ true
+        pub read_form : reader None group form ≡ Ok (made ∷ [])
         pub read : blocks.in_column place room reader column None group ≡ Ok (made ∷ [])
         pub same : erased made ≡ erased x
         pub from_on : FromOn column ls
@@ -561,6 +574,10 @@ module _ (quiet : ExpressionsAreQuiet) (begins : ExpressionsBegin) (own : Shapes
             lines = refl;
             at = record { head = (at, tt); begins = no_continuing l.tokens line; others = tt; continue = tt };
             made = made;
+            form = (Simple (made ∷ []));
+            formed = form;
+            plain = refl;
+            read_form = (read_small ((l, []), []) (made ∷ []) refl refl);
             read = in_column_back column ((l, []), []) (Simple (made ∷ [])) (made ∷ []) at form (read_small ((l, []), []) (made ∷ []) refl refl);
             same = same_stmt made x (small_again trees own before l.line x.kind r);
             from_on = (from_here column l.column at, tt);
@@ -617,6 +634,10 @@ module _ (quiet : ExpressionsAreQuiet) (begins : ExpressionsBegin) (own : Shapes
             lines = cut.whole ∙ ap (λ z. z ++ cut.rest) b.lines ∙ ap (λ z. (b.member.0 ∷ (b.member.1 ++ [])) ++ z) more.lines ∙ ap (λ z. b.member.0 ∷ (z ++ lines_of more.members)) (append-nil b.member.1);
             at = record { head = b.at; begins = ap (λ z. is_continuing (first_word z)) b.tokens; others = more.at; continue = more.continue };
             made = made;
+            form = (Compound (h.If again) None);
+            formed = form;
+            plain = refl;
+            read_form = (read_if w again b.made more.made b.read more.read);
             read = in_column_back column w (Compound (h.If again) None) (made ∷ []) b.at.0 form (read_if w again b.made more.made b.read more.read);
             same = same_stmt made x
                 (erased_if_as ((again, b.made) ∷ more.made.0) more.made.1
@@ -652,6 +673,10 @@ module _ (quiet : ExpressionsAreQuiet) (begins : ExpressionsBegin) (own : Shapes
             lines = b.lines;
             at = record { head = b.at; begins = ap (λ z. is_continuing (first_word z)) b.tokens; others = tt; continue = tt };
             made = made;
+            form = (Compound (h.While again) None);
+            formed = form;
+            plain = refl;
+            read_form = (read_while w again b.made refl b.read);
             read = in_column_back column w (Compound (h.While again) None) (made ∷ []) b.at.0 form (read_while w again b.made refl b.read);
             same = same_stmt made x
                 (erased_as (s.While again b.made) _ (outs-While again b.made)
@@ -686,6 +711,10 @@ module _ (quiet : ExpressionsAreQuiet) (begins : ExpressionsBegin) (own : Shapes
             lines = b.lines;
             at = record { head = b.at; begins = ap (λ z. is_continuing (first_word z)) b.tokens; others = tt; continue = tt };
             made = made;
+            form = (Compound (h.For names is_tuple again) None);
+            formed = form;
+            plain = refl;
+            read_form = (read_for w names is_tuple again b.made refl b.read);
             read = in_column_back column w (Compound (h.For names is_tuple again) None) (made ∷ []) b.at.0 form (read_for w names is_tuple again b.made refl b.read);
             same = same_stmt made x
                 (erased_as (s.For names is_tuple again b.made) _ (outs-For names is_tuple again b.made)
@@ -745,6 +774,10 @@ module _ (quiet : ExpressionsAreQuiet) (begins : ExpressionsBegin) (own : Shapes
             lines = cut.whole ∙ ap (λ z. z ++ cut.rest) b.lines ∙ ap (λ z. (b.member.0 ∷ (b.member.1 ++ [])) ++ z) more.lines ∙ ap (λ z. b.member.0 ∷ (z ++ lines_of more.members)) (append-nil b.member.1);
             at = record { head = b.at; begins = ap (λ z. is_continuing (first_word z)) b.tokens; others = more.at; continue = more.continue };
             made = made;
+            form = (Compound h.Try None);
+            formed = form;
+            plain = refl;
+            read_form = (read_try w b.made more.made b.read (handled_is b.member.0 more.members (more.begins_clause complete) ∙ more.read));
             read = in_column_back column w (Compound h.Try None) (made ∷ []) b.at.0 form (read_try w b.made more.made b.read (handled_is b.member.0 more.members (more.begins_clause complete) ∙ more.read));
             same = same_stmt made x
                 (erased_try b.made more.made.0 more.made.1 more.made.2

@@ -73,14 +73,14 @@ use Rattle.py_layout.proofs.BlockForms.{ok_bind, ok_is, Every, HasOne, Smalls, M
 
 -- ---- a line's form
 
-of_line : (l : Logical) (o : Option Form) → f.form_of l ≡ o → f.form l.line l.tokens ≡ o
+pub of_line : (l : Logical) (o : Option Form) → f.form_of l ≡ o → f.form l.line l.tokens ≡ o
 unfolding f.form_of
 of_line l o e = e
 
-smalls_of : (l : Logical) (header : Header) (small : Option (List Stmt)) → f.form_of l ≡ Some (Compound header small) → MaybeSmalls l.line small
+pub smalls_of : (l : Logical) (header : Header) (small : Option (List Stmt)) → f.form_of l ≡ Some (Compound header small) → MaybeSmalls l.line small
 smalls_of l header small e = header_small l.line l.tokens header small (of_line l (Some (Compound header small)) e)
 
-form_at : (l : Logical) (header : Header) (small : Option (List Stmt)) → f.form_of l ≡ Some (Compound header small) → HeaderForm l.line header
+pub form_at : (l : Logical) (header : Header) (small : Option (List Stmt)) → f.form_of l ≡ Some (Compound header small) → HeaderForm l.line header
 form_at l header small e = header_form l.line l.tokens header small (of_line l (Some (Compound header small)) e)
 
 if_test : (before : ℕ) (test : Expr) → HeaderForm before (h.If test) → ReadAt before Conditional test
@@ -192,7 +192,7 @@ module _ (place : Place) (room : ℕ) (inner : Behind → List Logical → Resul
   unless_read [] small body e = ok_is small body e
   unless_read (l ∷ ls) small body e = absurd (cc)
 
-  suite_read : (end : Behind) (m : Member) (small : Option (List Stmt)) (body : List Stmt) (before : ℕ) → MaybeSmalls before small → compounds.suite place room inner end m small ≡ Ok body → P body
+  pub suite_read : (end : Behind) (m : Member) (small : Option (List Stmt)) (body : List Stmt) (before : ℕ) → MaybeSmalls before small → compounds.suite place room inner end m small ≡ Ok body → P body
   suite_read end m None body before r e = deeper_read end m.0 m.1 body e
   suite_read end m (Some small) body before r e = by (room == 0) refl e
     where
@@ -367,7 +367,7 @@ module _ (place : Place) (room : ℕ) (inner : Behind → List Logical → Resul
   one_read : (l : Logical) (kind : StmtKind) (all : List Stmt) → KindRead P kind → compounds.stmt l kind ≡ all → StmtsRead P all
   one_read l kind all r is = subst (StmtsRead P) is ((_, ([], refl)), (r, tt))
 
-  statement_read : (end : Behind) (w : Group) (form : Form) (all : List Stmt) → f.form_of w.0.0 ≡ Some form → compounds.statement place room inner end w form ≡ Ok all → StmtsRead P all
+  pub statement_read : (end : Behind) (w : Group) (form : Form) (all : List Stmt) → f.form_of w.0.0 ≡ Some form → compounds.statement place room inner end w form ≡ Ok all → StmtsRead P all
   unfolding compounds.statement
   statement_read end w (Simple small) all q e =
       let r = simple_form w.0.0.line w.0.0.tokens small (of_line w.0.0 (Some (Simple small)) q) in
@@ -443,7 +443,7 @@ module _ (place : Place) (room : ℕ) (inner : Behind → List Logical → Resul
 
 -- ---- blocks
 
-smalls_in : (room : ℕ) → (room == 0) ≡ false → (before : ℕ) (body : List Stmt) → Smalls before body → BlockRead room body
+pub smalls_in : (room : ℕ) → (room == 0) ≡ false → (before : ℕ) (body : List Stmt) → Smalls before body → BlockRead room body
 smalls_in zero some before body r = absurd (cc)
 smalls_in (suc room) some before body r = (r.0, smalls_as_read (BlockRead room) before body r.1)
 

@@ -95,7 +95,7 @@ module _ (trees : TreesReadBack) (own : ShapesReadBack) where
   pub fresh_again : (before line : ℕ) (level : Level) (x : Expr) → ReadAt before level x → fresh 0 (fresh line x) ≡ fresh 0 x
   fresh_again before line level x r = ap erased_shape (fresh_same before line level x r)
 
-  maybe_again : (before line : ℕ) (level : Level) (x : Option Expr) → MaybeRead before level x → option_map (fresh 0) (option_map (fresh line) x) ≡ option_map (fresh 0) x
+  pub maybe_again : (before line : ℕ) (level : Level) (x : Option Expr) → MaybeRead before level x → option_map (fresh 0) (option_map (fresh line) x) ≡ option_map (fresh 0) x
   maybe_again before line level None r = refl
   maybe_again before line level (Some x) r = ap Some (fresh_again before line level x r)
 

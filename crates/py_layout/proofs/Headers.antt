@@ -116,15 +116,15 @@ module _ (quiet : ExpressionsAreQuiet) (begins : ExpressionsBegin) (own : Shapes
   back_of : (level : Level) (x : Expr) → ReadAt before level x → g.expr_at line level (expr_tokens level x) ≡ Some (fresh line x)
   back_of = expr_back quiet begins own before line
 
-  names_whole : (p : Separator) (names : List (List ℕ)) → AllWhole quiet begins own before line p (map lone names)
+  pub names_whole : (p : Separator) (names : List (List ℕ)) → AllWhole quiet begins own before line p (map lone names)
   names_whole p [] = tt
   names_whole p (n ∷ names) = (whole_name p n, names_whole p names)
 
-  names_begin : (names : List (List ℕ)) → AllBegin quiet begins own before line (map lone names)
+  pub names_begin : (names : List (List ℕ)) → AllBegin quiet begins own before line (map lone names)
   names_begin [] = tt
   names_begin (n ∷ names) = (record { first = t.Name n; rest = []; whole = refl; starts = refl }, names_begin names)
 
-  each_name : (names : List (List ℕ)) → each g.name (map lone names) ≡ Some names
+  pub each_name : (names : List (List ℕ)) → each g.name (map lone names) ≡ Some names
   each_name [] = refl
   each_name (n ∷ names) = ap (λ o. o >>= λ others. Some (n ∷ others)) (each_name names)
 
@@ -322,11 +322,11 @@ module _ (quiet : ExpressionsAreQuiet) (begins : ExpressionsBegin) (own : Shapes
 -- ---- what the parts of a header are that was read from any tokens
 
 module _ (before : ℕ) where
-  abbrev ReadAnnotation : Option Annotation → Type 0
+  abbrev pub ReadAnnotation : Option Annotation → Type 0
   ReadAnnotation None = Unit {0}
   ReadAnnotation (Some a) = (ts : List Token) × (annotation ts ≡ Some a)
 
-  abbrev ReadParams : List Param → Type 0
+  abbrev pub ReadParams : List Param → Type 0
   ReadParams [] = Unit {0}
   ReadParams (p ∷ params) = (ReadAnnotation p.annotation × MaybeRead before Conditional p.default) × ReadParams params
 

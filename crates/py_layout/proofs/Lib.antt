@@ -5,6 +5,8 @@ pub mod Cutting
 pub mod Erasing
 pub mod Headers
 pub mod Members
+pub mod ModuleBack
+pub mod ModuleReading
 pub mod Quiet
 pub mod RowLevels
 pub mod Small

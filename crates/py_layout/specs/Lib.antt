@@ -2,6 +2,7 @@ pub mod Blocks
 pub mod Erased
 pub mod Examples
 pub mod Headers
+pub mod Modules
 pub mod Quiet
 pub mod Rows
 pub mod Small

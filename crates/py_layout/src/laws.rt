@@ -1,6 +1,7 @@
 // The laws of layout.
 ghost use Rattle.py_layout.specs.Blocks.{BlocksReadBack};
 ghost use Rattle.py_layout.specs.Headers.{HeadersReadBack};
+ghost use Rattle.py_layout.specs.Modules.{ModulesReadBack};
 ghost use Rattle.py_layout.specs.Quiet.{ExpressionsAreQuiet};
 ghost use Rattle.py_layout.specs.Small.{SmallReadBack};
 ghost use Rattle.py_layout.specs.Starts.{ExpressionsBegin};
@@ -39,6 +40,15 @@ pub fn law_of_headers()
 /// statements, up to lines and node numbers, where the tokens of annotations are read back.
 pub fn law_of_blocks()
     ensures { BlocksReadBack }
+{
+    laws_of_quiet();
+    laws_of_expressions();
+}
+
+/// What any lines are read as a module, before its nodes are numbered, is read from the lines that it is printed as, wherever they are in a
+/// text: the same module, up to lines and node numbers, where the tokens of annotations are read back.
+pub fn law_of_modules()
+    ensures { ModulesReadBack }
 {
     laws_of_quiet();
     laws_of_expressions();

@@ -1,152 +1,58 @@
 -- A block that was read is read back from its own lines.
-use Rattle.std.proofs.Common.{◌≡◌, ◌∙◌, sym, ap, refl, subst, ℕ, zero, suc, Bool, true, false, cond, not, ◌&&◌, ◌||◌, List, [], ◌∷◌, ◌++◌, append-nil, append_assoc, inl, inr, Option, Some, None, arith}
+use Rattle.std.proofs.Common.{◌≡◌, ◌∙◌, sym, ap, refl, subst, ℕ, zero, suc, Bool, true, false, List, [], ◌∷◌, ◌++◌, append-nil, append_assoc, Option, Some, None, arith}
 use Rattle.std.specs.Prelude.{if◌then◌else◌, map, option_map}
-use Rattle.py_cut.specs.Cut as cut
-use Rattle.py_cut.specs.Cut.{scan, Passes}
-use Rattle.py_language.specs.declared.shape.Bracket.TheVariants.{Square}
-use Rattle.py_language.specs.declared.shape.Shape.{Shape}
 use Rattle.py_language.specs.declared.token.Token.{Token}
-use Rattle.py_language.specs.declared.token.Token.TheVariants as t
-use Rattle.py_language.specs.declared.token.Keyword.TheVariants as k
-use Rattle.py_language.specs.declared.token.Mark.TheVariants as m
-use Rattle.py_language.specs.TreesNumbers.{numbered}
-use Rattle.py_language.specs.TreesPlaces.{Level, Listed, Conditional, Postfix}
-use Rattle.py_language.specs.TreesSymbols.{symbols}
-use Rattle.py_language.specs.Trees.{◌>>=◌, each, shape, deepest, tree_at}
-use Rattle.py_syntax.specs.declared.expr.Expr.{Expr, fold_out-Expr}
-use Rattle.py_syntax.specs.declared.operator.BinOp.{BinOp}
-use Rattle.py_syntax.specs.declared.operator.BinOp.TheVariants.{Add, Sub, Mul, FloorDiv, Mod}
+use Rattle.py_language.specs.TreesPlaces.{Listed, Conditional}
+use Rattle.py_syntax.specs.declared.expr.Expr.{Expr}
 use Rattle.py_syntax.specs.declared.stmt.Annotation.{Annotation}
 use Rattle.py_syntax.specs.declared.stmt.StmtKind.{StmtKind, out-StmtKind}
 use Rattle.py_syntax.specs.declared.stmt.StmtKind.TheVariants as s
 use Rattle.py_syntax.specs.declared.stmt.StmtKind.TheVariants.{outs-Pass, outs-Break, outs-Continue, outs-Return, outs-Raise, outs-Assert, outs-Del, outs-Assign, outs-Augment, outs-Bare}
-use Rattle.py_syntax.specs.declared.stmt.Target.{Target}
-use Rattle.py_syntax.specs.declared.stmt.Target.TheVariants as to
-use Rattle.py_grammar.specs.declared.separator.Separator.{Separator}
-use Rattle.py_grammar.specs.declared.separator.Separator.TheVariants.{Semicolon, Comma, Colon, Equal, Assign, Pipe, Part, In, As, Closing}
-use Rattle.py_grammar.specs.Annotations.{annotation}
-use Rattle.py_grammar.specs.Separators.{opened, outside, marks, front, back, last_cut, split, trimmed, parts, some_parts, is_some, has, closed, inside}
+use Rattle.py_grammar.specs.Separators.{parts}
 use Rattle.py_grammar.specs.Statements as g
-use Rattle.py_printing.specs.Expressions.{Given, args_of, kind_of, unnumbered, expr_tokens, ShapesReadBack}
-use Rattle.py_layout.specs.Quiet.{is_strict, is_absent, QuietAt, ExpressionsAreQuiet}
-use Rattle.py_layout.specs.Starts.{is_start, Begins, ExpressionsBegin}
-use Rattle.py_layout.specs.Small.{indexed, target_tokens, joined, list_tokens, augmenting_token, maybe_tokens, message_tokens, typed_tokens, small_by, small_tokens, fresh, fresh_target, fresh_by, fresh_small, Whole, is_never_in_annotations, ReadsBack, SmallReadBack}
-use Rattle.py_layout.proofs.Quiet.{quiet_append, plain_quiet, between, dotted, scan-append, passes-append, outside_deep}
-use Rattle.py_layout.proofs.Cutting.{front_pass, back_pass, pieces_pass, last_cut_pass, front_at, back_at, pieces_at, last_cut_at, none_behind}
-use Rattle.std.specs.Prelude.{bytes_eq, codes, pred}
-use Rattle.py_language.specs.declared.shape.Bracket.TheVariants.{Round}
-use Rattle.py_syntax.specs.declared.module.Param.{Param}
+use Rattle.py_printing.specs.Expressions.{ShapesReadBack}
+use Rattle.py_layout.specs.Quiet.{ExpressionsAreQuiet}
+use Rattle.py_layout.specs.Starts.{ExpressionsBegin}
+use Rattle.py_layout.specs.Small.{small_by, small_tokens, fresh, fresh_small, ReadsBack}
 use Rattle.py_syntax.specs.declared.stmt.Stmt.{Stmt}
 use Rattle.py_grammar.specs.declared.form.Form.{Form}
-use Rattle.py_grammar.specs.declared.form.Form.TheVariants.{Simple, Compound, Future, Typing}
+use Rattle.py_grammar.specs.declared.form.Form.TheVariants.{Simple, Compound}
 use Rattle.py_grammar.specs.declared.form.Header.{Header}
 use Rattle.py_grammar.specs.declared.form.Header.TheVariants as h
 use Rattle.py_grammar.specs.Forms as f
-use Rattle.py_layout.specs.Headers.{lone, colon, classes_tokens, as_tokens, base_tokens, with_default, param_tokens, returns_tokens, header_before, header_tokens, fresh_param, fresh_header, HeadersReadBack}
-use Rattle.py_layout.proofs.Small.{some_bind, some_is, ReadAt, read_at, MaybeRead, AllWhole, AllBegin, expr_quiet, expr_begins, expr_back, whole_append, whole_token, quiet_whole, here, not_here, mark_after, joined_whole, list_whole, split_joined, trimmed_all, list_parts, list_has, list_begins, some_parts_of}
-use Rattle.py_layout.proofs.SmallForms.{Filled, each_filled, split_filled, lone_part, lone_one}
-use Rattle.std.proofs.Common.{cond}
+use Rattle.py_layout.specs.Headers.{header_tokens, fresh_header}
+use Rattle.py_layout.proofs.Small.{ReadAt}
 use Rattle.py_language.specs.declared.token.Logical.{Logical}
 use Rattle.py_syntax.specs.declared.stmt.Clause.{Clause}
 use Rattle.py_syntax.specs.declared.stmt.Clause as clause
-use Rattle.py_syntax.specs.declared.stmt.Stmt as stmt
-use Rattle.py_syntax.specs.declared.stmt.StmtKind.{StmtKind-F, map-StmtKind, fold_out-StmtKind}
+use Rattle.py_syntax.specs.declared.stmt.StmtKind.{StmtKind-F}
 use Rattle.py_grammar.specs.Refusals.{first_word, is_continuing}
 use Rattle.py_printing.specs.Expressions.{TreesReadBack}
-use Rattle.py_layout.specs.Erased.{erased_by, erased_clause_by, erased_stmt_by, erased, erased_clause, erased_kind}
-use Rattle.py_layout.proofs.Small.{TargetRead, TargetsRead, target_quiet, target_begins, targets_whole}
+use Rattle.py_layout.specs.Erased.{erased_clause_by, erased, erased_clause, erased_kind}
 use Rattle.py_layout.proofs.SmallForms.{SmallForm, of_pass, of_break, of_continue, of_return, of_raise, of_assert, of_del, of_assign, of_typed, of_augment, of_bare}
-use Rattle.py_layout.proofs.SmallForms as forms
-use Rattle.std.specs.Prelude.{Result, Ok, Err}
+use Rattle.std.specs.Prelude.{Result, Ok}
 use Rattle.py_syntax.specs.declared.refusal.Refusal.{Refusal}
 use Rattle.py_grammar.specs.declared.place.Place.{Place}
 use Rattle.py_grammar.specs.declared.place.Place.TheVariants.{Block}
 use Rattle.py_grammar.specs.Blocks as blocks
 use Rattle.py_grammar.specs.Blocks.{Member, Group, Behind, behind, unless_deeper}
 use Rattle.py_grammar.specs.Compounds as compounds
-use Rattle.py_layout.proofs.Headers.{HeaderForm, of_if, of_elif, of_else, of_while, of_for, of_try, of_any, of_except, of_finally, of_def, of_class, header_form, same_header, neither, import_no, simple_no}
-use Rattle.py_layout.proofs.SmallForms.{small_form}
-use Rattle.std.specs.Prelude.{◌==◌, option_to_list}
+use Rattle.py_layout.proofs.Headers.{HeaderForm, of_if, of_elif, of_else, of_while, of_for, of_try, of_any, of_except, of_finally}
+use Rattle.std.specs.Prelude.{◌==◌}
 use Rattle.py_grammar.specs.Refusals.{is_clause}
-use Rattle.py_layout.proofs.Headers.{compound_read}
-use Rattle.py_layout.proofs.BlockForms.{ok_bind, ok_is, Every, HasOne, Smalls, MaybeSmalls, simple_form, header_small, ArmsRead, MaybeBlock, ClassesRead, ClausesRead, Complete, KindRead, is_small, is_if, is_while, is_for, is_try, StmtsRead, BlockRead}
+use Rattle.py_layout.proofs.BlockForms.{Every, HasOne, ArmsRead, MaybeBlock, ClassesRead, ClausesRead, Complete, KindRead, is_small, is_if, is_while, is_for, is_try, StmtsRead, BlockRead}
 use Rattle.std.proofs.Common.{◌≤◌, ◌+◌}
-use Rattle.std.specs.List.{flat_map}
 use Rattle.py_syntax.specs.declared.stmt.StmtKind.TheVariants.{outs-If, outs-While, outs-For, outs-Try}
 use Rattle.py_layout.specs.Blocks.{shown, BlocksReadBack}
-use Rattle.py_layout.specs.Rows.{Row, Rows, Placed, row, indent, placed, headed, maybe_headed, arms_rows, kind_rows, clause_rows, rows_of, rows_of_clause, rows_of_kind, block_rows}
+use Rattle.py_layout.specs.Rows.{Row, Rows, Placed, row, indent, placed, headed, arms_rows, kind_rows, rows_of, rows_of_clause, rows_of_kind, block_rows}
 use Rattle.py_layout.proofs.BlockReading.{statements_read}
-use Rattle.py_layout.proofs.Erasing.{erased_parts, erased-stmt, erased-clause, erased_as, fresh_again, small_again}
+use Rattle.py_layout.proofs.Erasing.{erased-stmt, erased-clause, erased_as, fresh_again, small_again}
 use Rattle.py_layout.proofs.Headers.{header_back}
-use Rattle.py_layout.proofs.Members.{AllOut, lines_of, MemberAt, MembersAt, members_of, Continuing, GroupAt, GroupsAt, groups_back, is_shallow}
-use Rattle.py_layout.proofs.RowLevels.{parts_of_kind, parts_of_clause, by_statement, by_kind, by_clause}
+use Rattle.py_layout.proofs.Members.{lines_of, MemberAt, MembersAt, members_of, Continuing, GroupAt, GroupsAt, groups_back}
+use Rattle.py_layout.proofs.RowLevels.{parts_of_kind, by_statement, by_kind, by_clause}
 use Rattle.py_layout.proofs.SmallForms.{form_back}
 use Rattle.py_layout.proofs.SmallLines.{SmallLine, no_continuing, line_form, small_line}
-
--- ---- lists of lines
-
-pub cons_is : {A : Type 0} (x y : A) (xs ys : List A) → x ∷ xs ≡ y ∷ ys → (x ≡ y) × (xs ≡ ys)
-cons_is x y xs ys e = (cc, cc)
-
--- the forms of statements that may be in any block
-abbrev pub is_plain_form : Form → Bool
-is_plain_form (Simple all) = true
-is_plain_form (Compound (h.If test) small) = true
-is_plain_form (Compound (h.While test) small) = true
-is_plain_form (Compound (h.For names is_tuple walked) small) = true
-is_plain_form (Compound h.Try small) = true
-is_plain_form _ = false
-
-pub record Split (ls : List Logical) (xs ys : Rows) : Type 0 where
-  pub first : List Logical
-  pub rest : List Logical
-  pub whole : ls ≡ first ++ rest
-  pub shows : map shown first ≡ xs
-  pub shows_rest : map shown rest ≡ ys
-
-pub split_rows : (ls : List Logical) (xs ys : Rows) → map shown ls ≡ xs ++ ys → Split ls xs ys
-split_rows ls [] ys e = record { first = []; rest = ls; whole = refl; shows = refl; shows_rest = e }
-split_rows [] (x ∷ xs) ys e = absurd (cc)
-split_rows (l ∷ ls) (x ∷ xs) ys e =
-    let c = cons_is (shown l) x (map shown ls) (xs ++ ys) e in
-    let r = split_rows ls xs ys c.1 in
-    record { first = l ∷ r.first; rest = r.rest; whole = ap (λ z. l ∷ z) r.whole; shows = ap (λ z. z ∷ map shown r.first) c.0 ∙ ap (λ z. x ∷ z) r.shows; shows_rest = r.shows_rest }
-
-abbrev pub FromOn : ℕ → List Logical → Type 0
-FromOn column ls = Every (λ (l : Logical). column ≤ l.column) ls
-
-pub from_append : (column : ℕ) (xs ys : List Logical) → FromOn column xs → FromOn column ys → FromOn column (xs ++ ys)
-from_append column [] ys r q = q
-from_append column (x ∷ xs) ys r q = (r.0, from_append column xs ys r.1 q)
-
-pub from_less : (column : ℕ) (xs : List Logical) → FromOn (column + indent) xs → FromOn column xs
-from_less column [] r = tt
-from_less column (x ∷ xs) r = (less column x.column r.0, from_less column xs r.1)
-  where
-    less : (a b : ℕ) → a + 4 ≤ b → a ≤ b
-    less a b h = omega arith
-
-pub deeper : (column : ℕ) (xs : List Logical) → FromOn (column + indent) xs → AllOut (is_shallow column) xs
-deeper column [] r = tt
-deeper column (x ∷ xs) r = (over column x.column r.0, deeper column xs r.1)
-  where
-    over : (a b : ℕ) → a + 4 ≤ b → Rattle.std.specs.Prelude.nat_le b a ≡ false
-    over a b h = grind (arith, Rattle.std.proofs.lemmas.Bool.Decides.nat_tests)
-
-pub lines_append : (ms ns : List Member) → lines_of (ms ++ ns) ≡ lines_of ms ++ lines_of ns
-lines_append [] ns = refl
-lines_append (m ∷ ms) ns = ap (λ z. m.0 ∷ (m.1 ++ z)) (lines_append ms ns) ∙ ap (λ z. m.0 ∷ z) (sym (append_assoc m.1 (lines_of ms) (lines_of ns)))
-
-pub behind_none : {A : Type 0} (xs : List A) → behind xs None ≡ None
-behind_none [] = refl
-behind_none (x ∷ xs) = refl
-
-pub same_number : (n : ℕ) → (n == n) ≡ true
-same_number n = grind (arith, Rattle.std.proofs.lemmas.Bool.Decides.nat_tests)
-
-pub form_as : (l : Logical) (ts : List Token) (o : Option Form) → l.tokens ≡ ts → f.form l.line ts ≡ o → f.form_of l ≡ o
-unfolding f.form_of
-form_as l ts o is e = ap (f.form l.line) is ∙ e
+use Rattle.py_layout.proofs.OwnLines.{cons_is, is_plain_form, Split, split_rows, FromOn, from_append, from_less, deeper, lines_append, behind_none, same_number, form_as}
 
 module _ (quiet : ExpressionsAreQuiet) (begins : ExpressionsBegin) (own : ShapesReadBack) (trees : TreesReadBack) (annotated : Annotation → List Token) (reads : ReadsBack annotated) where
   abbrev rows : Stmt → Placed

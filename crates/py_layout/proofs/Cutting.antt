@@ -1,5 +1,5 @@
 -- Where a list is cut that has no mark but the one that is named.
-use Rattle.std.proofs.Common.{◌≡◌, ◌∙◌, ap, refl, subst, sym, Bool, true, false, cond, List, [], ◌∷◌, ◌++◌, Option, Some, None}
+use Rattle.std.proofs.Common.{◌≡◌, ap, refl, Bool, true, false, cond, List, [], ◌∷◌, ◌++◌, Some, None}
 use Rattle.py_cut.specs.Cut as cut
 
 module _ {S A : Type 0} (next : S → A → S) (p : S → A → Bool) where

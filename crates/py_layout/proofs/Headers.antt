@@ -1,39 +1,27 @@
 -- Headers of compound statements are read back from their tokens.
-use Rattle.std.proofs.Common.{◌≡◌, ◌∙◌, sym, ap, refl, subst, ℕ, zero, suc, Bool, true, false, cond, not, ◌&&◌, ◌||◌, List, [], ◌∷◌, ◌++◌, append-nil, append_assoc, inl, inr, Option, Some, None, arith}
+use Rattle.std.proofs.Common.{◌≡◌, ◌∙◌, sym, ap, refl, subst, ℕ, zero, suc, Bool, true, false, List, [], ◌∷◌, ◌++◌, append-nil, append_assoc, Option, Some, None}
 use Rattle.std.specs.Prelude.{if◌then◌else◌, map, option_map}
-use Rattle.py_cut.specs.Cut as cut
 use Rattle.py_cut.specs.Cut.{scan, Passes}
-use Rattle.py_language.specs.declared.shape.Bracket.TheVariants.{Square}
-use Rattle.py_language.specs.declared.shape.Shape.{Shape}
 use Rattle.py_language.specs.declared.token.Token.{Token}
 use Rattle.py_language.specs.declared.token.Token.TheVariants as t
 use Rattle.py_language.specs.declared.token.Keyword.TheVariants as k
 use Rattle.py_language.specs.declared.token.Mark.TheVariants as m
-use Rattle.py_language.specs.TreesNumbers.{numbered}
-use Rattle.py_language.specs.TreesPlaces.{Level, Listed, Conditional, Postfix}
-use Rattle.py_language.specs.TreesSymbols.{symbols}
-use Rattle.py_language.specs.Trees.{◌>>=◌, each, shape, deepest, tree_at}
-use Rattle.py_syntax.specs.declared.expr.Expr.{Expr, fold_out-Expr}
-use Rattle.py_syntax.specs.declared.operator.BinOp.{BinOp}
-use Rattle.py_syntax.specs.declared.operator.BinOp.TheVariants.{Add, Sub, Mul, FloorDiv, Mod}
+use Rattle.py_language.specs.TreesPlaces.{Level, Listed, Conditional}
+use Rattle.py_language.specs.Trees.{◌>>=◌, each}
+use Rattle.py_syntax.specs.declared.expr.Expr.{Expr}
 use Rattle.py_syntax.specs.declared.stmt.Annotation.{Annotation}
-use Rattle.py_syntax.specs.declared.stmt.StmtKind.{StmtKind, out-StmtKind}
-use Rattle.py_syntax.specs.declared.stmt.StmtKind.TheVariants as s
-use Rattle.py_syntax.specs.declared.stmt.StmtKind.TheVariants.{outs-Pass, outs-Break, outs-Continue, outs-Return, outs-Raise, outs-Assert, outs-Del, outs-Assign, outs-Augment, outs-Bare}
-use Rattle.py_syntax.specs.declared.stmt.Target.{Target}
-use Rattle.py_syntax.specs.declared.stmt.Target.TheVariants as to
 use Rattle.py_grammar.specs.declared.separator.Separator.{Separator}
 use Rattle.py_grammar.specs.declared.separator.Separator.TheVariants.{Semicolon, Comma, Colon, Equal, Assign, Pipe, Part, In, As, Closing}
 use Rattle.py_grammar.specs.Annotations.{annotation}
-use Rattle.py_grammar.specs.Separators.{opened, outside, marks, front, back, last_cut, split, trimmed, parts, some_parts, is_some, has, closed, inside}
+use Rattle.py_grammar.specs.Separators.{opened, outside, marks, front, back, split, trimmed, parts, some_parts, has, closed, inside}
 use Rattle.py_grammar.specs.Statements as g
-use Rattle.py_printing.specs.Expressions.{Given, args_of, kind_of, unnumbered, expr_tokens, ShapesReadBack}
-use Rattle.py_layout.specs.Quiet.{is_strict, is_absent, QuietAt, ExpressionsAreQuiet}
-use Rattle.py_layout.specs.Starts.{is_start, Begins, ExpressionsBegin}
-use Rattle.py_layout.specs.Small.{indexed, target_tokens, joined, list_tokens, augmenting_token, maybe_tokens, message_tokens, typed_tokens, small_by, small_tokens, fresh, fresh_target, fresh_by, fresh_small, Whole, is_never_in_annotations, ReadsBack, SmallReadBack}
-use Rattle.py_layout.proofs.Quiet.{quiet_append, plain_quiet, between, dotted, scan-append, passes-append, outside_deep}
-use Rattle.py_layout.proofs.Cutting.{front_pass, back_pass, pieces_pass, last_cut_pass, front_at, back_at, pieces_at, last_cut_at, none_behind}
-use Rattle.std.specs.Prelude.{bytes_eq, codes, pred}
+use Rattle.py_printing.specs.Expressions.{expr_tokens, ShapesReadBack}
+use Rattle.py_layout.specs.Quiet.{is_strict, QuietAt, ExpressionsAreQuiet}
+use Rattle.py_layout.specs.Starts.{Begins, ExpressionsBegin}
+use Rattle.py_layout.specs.Small.{joined, list_tokens, typed_tokens, fresh, Whole, is_never_in_annotations, ReadsBack}
+use Rattle.py_layout.proofs.Quiet.{between, outside_deep}
+use Rattle.py_layout.proofs.Cutting.{front_pass, back_pass, front_at, back_at}
+use Rattle.std.specs.Prelude.{bytes_eq, codes}
 use Rattle.py_language.specs.declared.shape.Bracket.TheVariants.{Round}
 use Rattle.py_syntax.specs.declared.module.Param.{Param}
 use Rattle.py_syntax.specs.declared.stmt.Stmt.{Stmt}
@@ -42,9 +30,9 @@ use Rattle.py_grammar.specs.declared.form.Form.TheVariants.{Simple, Compound, Fu
 use Rattle.py_grammar.specs.declared.form.Header.{Header}
 use Rattle.py_grammar.specs.declared.form.Header.TheVariants as h
 use Rattle.py_grammar.specs.Forms as f
-use Rattle.py_layout.specs.Headers.{lone, colon, classes_tokens, as_tokens, base_tokens, with_default, param_tokens, returns_tokens, header_before, header_tokens, fresh_param, fresh_header, HeadersReadBack}
-use Rattle.py_layout.proofs.Small.{some_bind, some_is, ReadAt, read_at, MaybeRead, AllWhole, AllBegin, expr_quiet, expr_begins, expr_back, whole_append, whole_token, quiet_whole, here, not_here, mark_after, joined_whole, list_whole, split_joined, trimmed_all, list_parts, list_has, list_begins, some_parts_of}
-use Rattle.py_layout.proofs.SmallForms.{Filled, each_filled, split_filled, lone_part, lone_one}
+use Rattle.py_layout.specs.Headers.{lone, colon, classes_tokens, as_tokens, base_tokens, with_default, param_tokens, returns_tokens, header_tokens, fresh_param, fresh_header, HeadersReadBack}
+use Rattle.py_layout.proofs.Small.{some_bind, some_is, ReadAt, read_at, MaybeRead, AllWhole, AllBegin, expr_quiet, expr_back, whole_append, whole_token, quiet_whole, not_here, mark_after, joined_whole, list_whole, split_joined, trimmed_all, list_parts, list_has, list_begins, some_parts_of}
+use Rattle.py_layout.proofs.SmallForms.{each_filled, split_filled, lone_part, lone_one}
 
 -- ---- brackets round tokens in which no bracket closes one that was opened before them
 

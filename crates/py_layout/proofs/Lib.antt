@@ -7,6 +7,7 @@ pub mod Headers
 pub mod Members
 pub mod ModuleBack
 pub mod ModuleReading
+pub mod OwnLines
 pub mod Quiet
 pub mod RowLevels
 pub mod Small

@@ -17,8 +17,7 @@ use Rattle.py_language.specs.declared.shape.Shape.TheVariants.{outs-Atom, outs-L
 use Rattle.py_language.specs.declared.shape.Symbol.{Symbol}
 use Rattle.py_language.specs.declared.shape.Symbol.TheVariants as s
 use Rattle.py_language.specs.TreesPlaces.{Level, Conditional, Disjunction, Conjunction, Negation, Sum, Product, Signed, Postfix, Listed}
-use Rattle.py_language.specs.Trees.{deepest, operator, tree_at}
-use Rattle.py_syntax.specs.declared.expr.Expr.{Expr}
+use Rattle.py_language.specs.Trees.{deepest, operator}
 use Rattle.py_syntax.specs.declared.operator.BinOp.{BinOp}
 use Rattle.py_syntax.specs.declared.operator.BinOp.TheVariants.{Add, Sub, Mul, FloorDiv, Mod}
 use Rattle.py_syntax.specs.declared.operator.CmpOp.{CmpOp}
@@ -33,7 +32,7 @@ use Rattle.py_printing.specs.ShapeLaws.{OnlyFittingAreRead}
 use Rattle.py_printing.specs.Printing as p
 use Rattle.py_printing.specs.Printing.{chain, after_comma, commas, enclosed, Slot, At, Callee, Owner, Printed, is_bare_in, in_slot, is_factor, one, marked, argument, arguments, entry, tuple, bound, binary, printed, print, print_node, Each, IfThere, Form, of_atom, of_list, of_tuple, of_dict, of_attr, of_index, of_slice, of_call, of_method, of_super, of_unary, of_not, of_sum, of_product, of_and, of_or, of_compare, of_cond, Fits}
 use Rattle.py_printing.specs.SymbolTokens.{tokens, tokens_in, open_token, close_token, super_name}
-use Rattle.py_layout.specs.Quiet.{is_strict, is_absent, QuietAt, Quiet, ExpressionsAreQuiet}
+use Rattle.py_layout.specs.Quiet.{is_strict, is_absent, QuietAt, ExpressionsAreQuiet}
 
 -- ---- tokens, one after another
 

@@ -1,5 +1,5 @@
 -- Small statements are read back from their tokens.
-use Rattle.std.proofs.Common.{◌≡◌, ◌∙◌, sym, ap, refl, subst, ℕ, zero, suc, Bool, true, false, cond, not, ◌&&◌, ◌||◌, List, [], ◌∷◌, ◌++◌, append-nil, inl, inr, Option, Some, None, arith}
+use Rattle.std.proofs.Common.{◌≡◌, ◌∙◌, sym, ap, refl, subst, ℕ, Bool, true, false, ◌||◌, List, [], ◌∷◌, ◌++◌, append-nil, Option, Some, None}
 use Rattle.std.specs.Prelude.{if◌then◌else◌, map, option_map}
 use Rattle.py_cut.specs.Cut as cut
 use Rattle.py_cut.specs.Cut.{scan, Passes}
@@ -17,22 +17,21 @@ use Rattle.py_syntax.specs.declared.expr.Expr.{Expr, fold_out-Expr}
 use Rattle.py_syntax.specs.declared.operator.BinOp.{BinOp}
 use Rattle.py_syntax.specs.declared.operator.BinOp.TheVariants.{Add, Sub, Mul, FloorDiv, Mod}
 use Rattle.py_syntax.specs.declared.stmt.Annotation.{Annotation}
-use Rattle.py_syntax.specs.declared.stmt.StmtKind.{StmtKind, out-StmtKind}
 use Rattle.py_syntax.specs.declared.stmt.StmtKind.TheVariants as s
 use Rattle.py_syntax.specs.declared.stmt.StmtKind.TheVariants.{outs-Pass, outs-Break, outs-Continue, outs-Return, outs-Raise, outs-Assert, outs-Del, outs-Assign, outs-Augment, outs-Bare}
 use Rattle.py_syntax.specs.declared.stmt.Target.{Target}
 use Rattle.py_syntax.specs.declared.stmt.Target.TheVariants as to
 use Rattle.py_grammar.specs.declared.separator.Separator.{Separator}
-use Rattle.py_grammar.specs.declared.separator.Separator.TheVariants.{Semicolon, Comma, Colon, Equal, Assign, Pipe, Part, In, As, Closing}
+use Rattle.py_grammar.specs.declared.separator.Separator.TheVariants.{Comma, Colon, Equal, Assign, Part, Closing}
 use Rattle.py_grammar.specs.Annotations.{annotation}
 use Rattle.py_grammar.specs.Separators.{opened, outside, marks, front, back, last_cut, split, trimmed, parts, some_parts, is_some, has, closed, inside}
 use Rattle.py_grammar.specs.Statements as g
 use Rattle.py_printing.specs.Expressions.{Given, args_of, kind_of, unnumbered, expr_tokens, ShapesReadBack}
-use Rattle.py_layout.specs.Quiet.{is_strict, is_absent, QuietAt, ExpressionsAreQuiet}
+use Rattle.py_layout.specs.Quiet.{is_strict, QuietAt, ExpressionsAreQuiet}
 use Rattle.py_layout.specs.Starts.{is_start, Begins, ExpressionsBegin}
-use Rattle.py_layout.specs.Small.{indexed, target_tokens, joined, list_tokens, augmenting_token, maybe_tokens, message_tokens, typed_tokens, small_by, small_tokens, fresh, fresh_target, fresh_by, fresh_small, Whole, is_never_in_annotations, ReadsBack, SmallReadBack}
+use Rattle.py_layout.specs.Small.{indexed, target_tokens, joined, list_tokens, augmenting_token, maybe_tokens, message_tokens, fresh, fresh_target, Whole}
 use Rattle.py_layout.proofs.Quiet.{quiet_append, plain_quiet, between, dotted, scan-append, passes-append}
-use Rattle.py_layout.proofs.Cutting.{front_pass, back_pass, pieces_pass, last_cut_pass, front_at, back_at, pieces_at, last_cut_at, none_behind}
+use Rattle.py_layout.proofs.Cutting.{front_pass, back_pass, pieces_pass, front_at, back_at, pieces_at, last_cut_at}
 
 -- ---- readings that may fail
 

@@ -1,21 +1,17 @@
 -- What the parts of a small statement are that was read from any tokens, and so that it is read back from its own.
-use Rattle.std.proofs.Common.{◌≡◌, ◌∙◌, sym, ap, refl, subst, ℕ, zero, suc, Bool, true, false, cond, not, ◌&&◌, ◌||◌, List, [], ◌∷◌, ◌++◌, append-nil, inl, inr, Option, Some, None, arith}
-use Rattle.std.specs.Prelude.{if◌then◌else◌, map, option_map}
+use Rattle.std.proofs.Common.{◌≡◌, ◌∙◌, sym, ap, refl, subst, ℕ, Bool, true, false, cond, List, [], ◌∷◌, Option, Some, None}
+use Rattle.std.specs.Prelude.{map}
 use Rattle.py_cut.specs.Cut as cut
 use Rattle.py_cut.specs.Cut.{scan, Passes}
 use Rattle.py_language.specs.declared.shape.Bracket.TheVariants.{Square}
-use Rattle.py_language.specs.declared.shape.Shape.{Shape}
 use Rattle.py_language.specs.declared.token.Token.{Token}
 use Rattle.py_language.specs.declared.token.Token.TheVariants as t
 use Rattle.py_language.specs.declared.token.Keyword.TheVariants as k
 use Rattle.py_language.specs.declared.token.Mark.TheVariants as m
-use Rattle.py_language.specs.TreesNumbers.{numbered}
 use Rattle.py_language.specs.TreesPlaces.{Level, Listed, Conditional, Postfix}
-use Rattle.py_language.specs.TreesSymbols.{symbols}
-use Rattle.py_language.specs.Trees.{◌>>=◌, each, shape, deepest, tree_at}
-use Rattle.py_syntax.specs.declared.expr.Expr.{Expr, fold_out-Expr}
+use Rattle.py_language.specs.Trees.{◌>>=◌, each}
+use Rattle.py_syntax.specs.declared.expr.Expr.{Expr}
 use Rattle.py_syntax.specs.declared.operator.BinOp.{BinOp}
-use Rattle.py_syntax.specs.declared.operator.BinOp.TheVariants.{Add, Sub, Mul, FloorDiv, Mod}
 use Rattle.py_syntax.specs.declared.stmt.Annotation.{Annotation}
 use Rattle.py_syntax.specs.declared.stmt.StmtKind.{StmtKind, StmtKind-F, out-StmtKind}
 use Rattle.py_syntax.specs.declared.stmt.StmtKind.TheVariants as s
@@ -25,16 +21,15 @@ use Rattle.py_syntax.specs.declared.stmt.Stmt.{Stmt}
 use Rattle.py_syntax.specs.declared.stmt.Target.{Target}
 use Rattle.py_syntax.specs.declared.stmt.Target.TheVariants as to
 use Rattle.py_grammar.specs.declared.separator.Separator.{Separator}
-use Rattle.py_grammar.specs.declared.separator.Separator.TheVariants.{Semicolon, Comma, Colon, Equal, Assign, Pipe, Part, In, As, Closing}
+use Rattle.py_grammar.specs.declared.separator.Separator.TheVariants.{Comma, Colon, Equal, Assign, Part}
 use Rattle.py_grammar.specs.Annotations.{annotation}
-use Rattle.py_grammar.specs.Separators.{opened, outside, marks, front, back, last_cut, split, trimmed, parts, some_parts, is_some, has, closed, inside}
+use Rattle.py_grammar.specs.Separators.{opened, outside, front, back, last_cut, split, trimmed, parts, some_parts, is_some, has, inside}
 use Rattle.py_grammar.specs.Statements as g
-use Rattle.py_printing.specs.Expressions.{Given, args_of, kind_of, unnumbered, expr_tokens, ShapesReadBack}
-use Rattle.py_layout.specs.Quiet.{is_strict, is_absent, QuietAt, ExpressionsAreQuiet}
-use Rattle.py_layout.specs.Starts.{is_start, Begins, ExpressionsBegin}
-use Rattle.py_layout.specs.Small.{indexed, target_tokens, joined, list_tokens, augmenting_token, maybe_tokens, message_tokens, typed_tokens, small_by, small_tokens, fresh, fresh_target, fresh_by, fresh_small, Whole, is_never_in_annotations, ReadsBack, SmallReadBack}
-use Rattle.py_layout.proofs.Quiet.{quiet_append, plain_quiet, between, dotted, scan-append, passes-append}
-use Rattle.py_layout.proofs.Cutting.{front_pass, back_pass, pieces_pass, last_cut_pass, front_at, back_at, pieces_at, last_cut_at, none_behind}
+use Rattle.py_printing.specs.Expressions.{ShapesReadBack}
+use Rattle.py_layout.specs.Quiet.{ExpressionsAreQuiet}
+use Rattle.py_layout.specs.Starts.{ExpressionsBegin}
+use Rattle.py_layout.specs.Small.{small_by, small_tokens, fresh_by, fresh_small, ReadsBack, SmallReadBack}
+use Rattle.py_layout.proofs.Cutting.{front_pass, pieces_pass, none_behind}
 use Rattle.py_layout.proofs.Small.{some_bind, some_is, ReadAt, read_at, MaybeRead, TargetRead, TargetsRead, maybe_back, assign_back, augment_back, typed_back, assert_back, delete_back, bare_back}
 
 module _ (before : ℕ) where

@@ -1,32 +1,28 @@
 -- The first token of a printed expression, form by form.
-use Rattle.std.proofs.Common.{◌≡◌, ◌∙◌, sym, ap, refl, subst, ℕ, zero, suc, Bool, true, false, ◌&&◌, ◌||◌, not, List, [], ◌∷◌, ◌++◌, Option, Some, None, inl, inr, arith, append_assoc}
-use Rattle.std.specs.Prelude.{◌==◌, if◌then◌else◌, map, option_map, nat_lt}
+use Rattle.std.proofs.Common.{◌≡◌, ◌∙◌, sym, ap, refl, subst, ℕ, zero, suc, Bool, true, false, List, [], ◌∷◌, ◌++◌, inl, inr}
+use Rattle.std.specs.Prelude.{if◌then◌else◌, map}
 use Rattle.py_language.specs.declared.token.Token.{Token}
-use Rattle.py_language.specs.declared.token.Token.TheVariants as t
-use Rattle.py_language.specs.declared.token.Mark.TheVariants as m
 use Rattle.py_language.specs.declared.shape.Atom.{Atom}
 use Rattle.py_language.specs.declared.shape.Atom.TheVariants as a
 use Rattle.py_language.specs.declared.shape.Bracket.{Bracket}
 use Rattle.py_language.specs.declared.shape.Bracket.TheVariants.{Round, Square, Brace}
-use Rattle.py_language.specs.declared.shape.Shape.{Shape, Shape-F, fold_out-Shape, map-Shape, out-Shape}
+use Rattle.py_language.specs.declared.shape.Shape.{Shape}
 use Rattle.py_language.specs.declared.shape.Shape.TheVariants as e
 use Rattle.py_language.specs.declared.shape.Shape.TheVariants.{outs-Atom, outs-ListLit, outs-TupleLit, outs-DictLit, outs-Attr, outs-Index, outs-Slice, outs-Call, outs-Method, outs-Super, outs-Unary, outs-Not, outs-Binary, outs-And, outs-Or, outs-Compare, outs-Cond}
 use Rattle.py_language.specs.declared.shape.Symbol.{Symbol}
 use Rattle.py_language.specs.declared.shape.Symbol.TheVariants as s
-use Rattle.py_language.specs.TreesPlaces.{Level, Conditional, Disjunction, Conjunction, Negation, Sum, Product, Signed, Postfix, Listed}
-use Rattle.py_language.specs.Trees.{deepest, operator, tree_at}
-use Rattle.py_syntax.specs.declared.expr.Expr.{Expr}
+use Rattle.py_language.specs.TreesPlaces.{Conditional, Disjunction, Conjunction, Negation, Sum, Product, Postfix}
+use Rattle.py_language.specs.Trees.{deepest, operator}
 use Rattle.py_syntax.specs.declared.operator.BinOp.{BinOp}
 use Rattle.py_syntax.specs.declared.operator.BinOp.TheVariants.{Add, Sub, Mul, FloorDiv, Mod}
 use Rattle.py_syntax.specs.declared.operator.CmpOp.{CmpOp}
-use Rattle.py_syntax.specs.declared.operator.CmpOp.TheVariants.{Lt, Gt, Eq, Ge, Le, Ne, Contained, NotContained, Same, NotSame}
 use Rattle.py_syntax.specs.declared.operator.Sign.{Sign}
 use Rattle.py_syntax.specs.declared.operator.Sign.TheVariants.{Minus, Plus}
 use Rattle.py_printing.specs.Expressions.{expr_tokens, unnumbered, ShapesReadBack}
 use Rattle.py_printing.specs.ShapeLaws.{OnlyFittingAreRead}
 use Rattle.py_printing.specs.Printing as p
 use Rattle.py_printing.specs.Printing.{chain, after_comma, commas, enclosed, Slot, At, Callee, Owner, Printed, is_bare_in, in_slot, is_factor, one, marked, argument, arguments, entry, tuple, bound, binary, printed, print, print_node, Each, IfThere, Form, of_atom, of_list, of_tuple, of_dict, of_attr, of_index, of_slice, of_call, of_method, of_super, of_unary, of_not, of_sum, of_product, of_and, of_or, of_compare, of_cond, Fits}
-use Rattle.py_printing.specs.SymbolTokens.{tokens, tokens_in, open_token, close_token, super_name}
+use Rattle.py_printing.specs.SymbolTokens.{tokens, tokens_in}
 use Rattle.py_layout.specs.Starts.{is_start, Begins, ExpressionsBegin}
 use Rattle.py_layout.proofs.Quiet.{tokens-append, printed_by, printed-out, printed-slice}
 

@@ -1,5 +1,5 @@
 -- Statements without their lines and node numbers: two are the same up to these where this is the same.
-use Rattle.std.specs.Prelude.{ℕ, List, map, option_map}
+use Rattle.std.specs.Prelude.{map, option_map}
 use Rattle.py_syntax.specs.declared.stmt.Clause.{Clause, Clause-F, fold-Clause, roll-Clause}
 use Rattle.py_syntax.specs.declared.stmt.Stmt.{Stmt, Stmt-F, fold-Stmt}
 use Rattle.py_syntax.specs.declared.stmt.StmtKind.{StmtKind, StmtKind-F, fold-StmtKind}

@@ -1,12 +1,12 @@
 -- Tokens that a line isn't cut in: their brackets close, and none of the separators stands in them outside brackets.
-use Rattle.std.specs.Prelude.{◌≡◌, ℕ, suc, Bool, true, false, ◌||◌, nat_lt, List, Some}
+use Rattle.std.specs.Prelude.{◌≡◌, ℕ, Bool, true, false, ◌||◌, nat_lt, List, Some}
 use Rattle.py_cut.specs.Cut.{scan, Passes}
 use Rattle.py_language.specs.declared.token.Token.{Token}
 use Rattle.py_language.specs.TreesPlaces.{Level}
 use Rattle.py_language.specs.Trees.{tree_at}
 use Rattle.py_syntax.specs.declared.expr.Expr.{Expr}
 use Rattle.py_grammar.specs.declared.separator.Separator.{Separator}
-use Rattle.py_grammar.specs.declared.separator.Separator.TheVariants.{Semicolon, Comma, Colon, Equal, Assign, Pipe, Part, In, As, Closing}
+use Rattle.py_grammar.specs.declared.separator.Separator.TheVariants.{Part, In}
 use Rattle.py_grammar.specs.Separators.{opened, outside}
 use Rattle.py_printing.specs.Expressions.{expr_tokens}
 

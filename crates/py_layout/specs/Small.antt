@@ -1,5 +1,5 @@
 -- The tokens that each small statement is printed as, and the statement as it is read from them (Language Reference, chapter 7).
-use Rattle.std.specs.Prelude.{◌≡◌, ℕ, Bool, true, false, not, ◌&&◌, if◌then◌else◌, List, [], ◌∷◌, ◌++◌, map, option_map, Option, Some, None}
+use Rattle.std.specs.Prelude.{◌≡◌, ℕ, Bool, true, false, if◌then◌else◌, List, [], ◌∷◌, ◌++◌, map, option_map, Option, Some, None}
 use Rattle.py_cut.specs.Cut.{scan, Passes}
 use Rattle.py_language.specs.declared.token.Token.{Token}
 use Rattle.py_language.specs.declared.token.Token.TheVariants as t

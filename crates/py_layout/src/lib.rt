@@ -14,4 +14,6 @@ mod examples;
 mod laws;
 
 pub use examples::small_statements_by_example;
-pub use laws::{law_of_blocks, law_of_headers, law_of_modules, law_of_small_statements, laws_of_quiet};
+pub use laws::{
+    law_of_blocks, law_of_headers, law_of_modules, law_of_small_statements, laws_of_quiet,
+};

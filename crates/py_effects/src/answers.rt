@@ -1,8 +1,9 @@
 // From the answers of operations to ends of runs.
-ghost use Rattle.std.specs.Prelude.{◌≡◌, ◌≤◌, Ok, IfOk};
+ghost use Rattle.std.specs.Prelude.{◌≡◌, ℕ, Ok, IfOk};
 ghost use Rattle.py_meaning.specs.declared.value.Value.TheVariants.{Ref};
-ghost use Rattle.py_meaning.specs.Walk.{truth};
-ghost use Rattle.py_plain.specs.Runs.{go_on, gives, tests, passes};
+ghost use Rattle.py_meaning.specs.Steps.{Change, changes, UnlessMemory};
+ghost use Rattle.py_meaning.specs.Worlds.{World};
+ghost use Rattle.py_plain.specs.Runs.{go_on, gives, tests, passes, performs};
 ghost use Rattle.py_effects.specs.Answers.{Answers};
 
 use crate::raise;
@@ -33,7 +34,7 @@ pub fn give<W: Drop>(s: &State<Objects, W>, x: Value) -> Finding
 }
 
 /// How an operation ends a run whose state has the objects and the steps that it left. What it raises is a new object.
-pub fn settle<W: Drop, T: Drop>(
+pub(crate) fn settle<W: Drop, T: Drop>(
     s: &mut State<Objects, W>,
     answer: Op<T>,
 ) -> Result<Outcome<T>, Memory>
@@ -47,6 +48,18 @@ pub fn settle<W: Drop, T: Drop>(
         Op::OutOfSteps => Ok(Err(Abrupt::OutOfSteps)),
         Op::Memory => Err(Memory),
     }
+}
+
+/// The same, said of the change that the operation makes, from the objects and the steps before it.
+pub fn settle_change<W: Drop, T: Drop>(
+    s: &mut State<Objects, W>,
+    answer: Op<T>,
+) -> Result<Outcome<T>, Memory>
+    ensures meant { IfOk result (λ end. (change : Change World T) (before : World) (had : ℕ) → UnlessMemory answer (changes change before had ≡ (answer, s.old.objects, s.old.left)) → performs change (record s.old { objects = before; left = had }) ≡ (end, s.new)) }
+    ensures spends { s.new.left ≡ s.old.left }
+{
+    let end = settle(s, answer)?;
+    Ok(end)
 }
 
 /// A value that an operation has made is judged by its truth.

@@ -16,7 +16,7 @@ mod raises;
 mod subscripts;
 mod watching;
 
-pub use answers::{Finding, Outcome, give, given, is_true, settle};
+pub use answers::{Finding, Outcome, give, given, is_true, settle_change};
 pub use clauses::{bind_as, enter_clause, leave_clause, unbind_as};
 pub use displays::{make_dict, make_list, make_tuple};
 pub use names::{bind, bind_all, bind_names, unbind, unpack};

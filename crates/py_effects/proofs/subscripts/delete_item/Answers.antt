@@ -1,0 +1,12 @@
+use Rattle.py_meaning.specs.Subscripts.{delete_item}
+use Rattle.py_plain.specs.Runs.{performs, passes}
+use Rattle.py_effects.proofs.Performing.{performs_as, then_on}
+use Rattle.py_effects.proofs.subscripts.delete_item.Goals as goal
+
+pub returns-clause-meant : goal.returns-clause-meant
+returns-clause-meant g c =
+    let change = delete_item c.args.of.now c.args.at.now in
+    then_on (performs change) (λ _. passes) c.args.s.now (c.in_ok-end.end, c.settle.new.s) (c.passed.result, c.settle.new.s)
+    (performs_as c.args.s.now c.delete_item-answer.result (c.in_ok-end.end, c.settle.new.s) c.new-fuel.result c.left-s.result c.delete_item-answer.new.fuel c.delete_item-answer.new.objects
+    c.new-fuel.ensures c.left-s.ensures c.in_ok-end.ensures.meant change c.delete_item-answer.ensures.meant)
+    c.passed.ensures

@@ -1,0 +1,9 @@
+pub mod Chains
+pub mod ConstantLevels
+pub mod DefaultsOf
+pub mod DisplayLevels
+pub mod Futures
+pub mod Leasts
+pub mod PastMost
+pub mod Prefixes
+pub mod Variants

@@ -1,0 +1,3 @@
+pub mod ExpressionLevels
+pub mod Misplaced
+pub mod StatementLevels

@@ -1,0 +1,8 @@
+pub mod Annotated
+pub mod BoundLevels
+pub mod Classes
+pub mod Earlier
+pub mod Locals
+pub mod ModuleNames
+pub mod Texts
+pub mod Typing

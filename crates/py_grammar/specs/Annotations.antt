@@ -1,6 +1,6 @@
 -- Annotations: names with parts in brackets, `None`, and strings that hold an annotation (Language Reference 7.2.2 and 8.7,
 -- and the library manual's chapter on typing).
-use Rattle.std.specs.Prelude.{ℕ, zero, suc, List, [], ◌∷◌, ◌++◌, length, nat_le, Option, Some, None, if◌then◌else◌, encode_utf8_all}
+use Rattle.std.specs.Prelude.{ℕ, zero, suc, List, [], ◌∷◌, ◌++◌, Option, Some, None, encode_utf8_all}
 use Rattle.pyn_base.specs.declared.construct.Construct.{Construct}
 use Rattle.py_language.specs.declared.shape.Bracket.TheVariants.{Square}
 use Rattle.py_language.specs.declared.token.Logical.{Logical}
@@ -26,12 +26,8 @@ abbrev pub lone : List Logical → Option (ℕ × Construct) → Option (List To
 lone (l ∷ []) None = Some l.tokens
 lone _ _ = None
 
--- no longer text is read
-abbrev pub longest_text : ℕ
-longest_text = 268435456
-
 abbrev pub line_in : List ℕ → Option (List Token)
-line_in text = if nat_le (length text) longest_text then lone (tokens_of text).lines (tokens_of text).fault else None
+line_in text = lone (tokens_of text).lines (tokens_of text).fault
 
 -- what the one line in a string's characters is
 unfoldable pub held : (List Token → Option Annotation) → List ℕ → Option Annotation

@@ -18,7 +18,7 @@ use std::alloc::Global;
 /// One more than the number of brackets and strings that may be in one another.
 const DEEPEST: usize = 51;
 
-/// No longer text is read, in bytes.
+/// The bytes of the longest text whose tokens are read. A string of a module is shorter, as the module is.
 const LONGEST: usize = 268_435_456;
 
 /// The text of strings that are alone.
@@ -37,12 +37,12 @@ fn joined(alloc: Global, tokens: &[Token]) -> Result<Text, ExprFault>
     Ok(text)
 }
 
-/// The tokens of a text that is one logical line without a fault.
+/// The tokens of a text that is one logical line without a fault. A text longer than any that is read is out of memory.
 fn line_in(alloc: Global, text: &[u8]) -> Result<Items<Token>, ExprFault>
     ensures { Gives result (line_in text.now) }
 {
     if text.len() > LONGEST {
-        return Err(ExprFault::Refused);
+        return Err(ExprFault::Memory);
     }
     let mut all = tokens(alloc, text)?;
     if all.fault.is_some() {

@@ -1,5 +1,6 @@
 // The fault for which a module is refused.
 ghost use Rattle.std.specs.Prelude.{◌≡◌, IfOk};
+ghost use Rattle.py_plain.specs.Program.{program_of};
 ghost use Rattle.py_scopes.specs.Refusals.{refusal};
 
 use crate::earliest::earliest_of;
@@ -16,8 +17,20 @@ pub fn module_fault(alloc: Global, tree: &Module) -> Result<Option<(Line, Constr
     ensures { IfOk result (λ fault. fault ≡ refusal tree.now) }
 {
     let tables = Tables::new(alloc, tree)?;
-    let of_module = module_faults(alloc, tree, &tables)?;
-    let of_names = name_faults(alloc, tree)?;
+    fault_by(alloc, tree, &tables)
+}
+
+/// The same, by the module's tables.
+pub(crate) fn fault_by<'m>(
+    alloc: Global,
+    tree: &'m Module,
+    tables: &Tables<'m>,
+) -> Result<Option<(Line, Construct)>, Memory>
+    requires { tables.now ≡ program_of tree.now }
+    ensures { IfOk result (λ fault. fault ≡ refusal tree.now) }
+{
+    let of_module = module_faults(alloc, tree, tables)?;
+    let of_names = name_faults(alloc, tree, tables)?;
     let annotation = annotations(alloc, tree)?;
     let scope = class_scope(alloc, tree)?;
     Ok(earliest_of(&[

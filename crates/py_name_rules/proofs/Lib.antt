@@ -1,6 +1,5 @@
 pub mod Annotated
 pub mod BoundLevels
-pub mod Classes
 pub mod Earlier
 pub mod Locals
 pub mod ModuleNames

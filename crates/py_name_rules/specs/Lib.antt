@@ -1,5 +1,4 @@
 pub mod Blocks
-pub mod ClassRows
 pub mod Earliest
 pub mod Places
 pub mod Underscores

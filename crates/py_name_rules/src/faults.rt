@@ -1,10 +1,10 @@
 // The least line of each rule of names.
 ghost use Rattle.std.specs.Prelude.{◌≡◌, IfOk};
+ghost use Rattle.py_plain.specs.Program.{program_of};
 ghost use Rattle.py_scopes.specs.NameRows.{special_method, special_name, private_name, typing_name, break_outside_loop, bare_raise, exception_name, super, arguments, unknown_name};
 ghost use Rattle.py_scopes.specs.Refusals.{least};
 
 use crate::earliest::least_line;
-use crate::exceptions::Exceptions;
 use crate::known::{imports_in, module_names};
 use crate::rules::{
     Arguments, BareRaise, BreakOutsideLoop, ExceptionName, PrivateName, SpecialMethod, SpecialName,
@@ -12,6 +12,7 @@ use crate::rules::{
 };
 use crate::site::sites_of;
 use py_syntax::{Line, Module};
+use py_tables::Tables;
 use py_uses::pieces_of;
 use pyn_base::Memory;
 use std::alloc::Global;
@@ -41,8 +42,13 @@ pub struct NameFaults {
     pub unknown_name: Option<Line>,
 }
 
-/// The faults of a module by the rules of names.
-pub fn name_faults(alloc: Global, tree: &Module) -> Result<NameFaults, Memory>
+/// The faults of a module by the rules of names, where `tables` are the module's.
+pub fn name_faults<'m>(
+    alloc: Global,
+    tree: &'m Module,
+    tables: &Tables<'m>,
+) -> Result<NameFaults, Memory>
+    requires { tables.now ≡ program_of tree.now }
     ensures special_method { IfOk result (λ faults. faults.special_method ≡ least (special_method tree.now)) }
     ensures special_name { IfOk result (λ faults. faults.special_name ≡ least (special_name tree.now)) }
     ensures private_name { IfOk result (λ faults. faults.private_name ≡ least (private_name tree.now)) }
@@ -56,7 +62,6 @@ pub fn name_faults(alloc: Global, tree: &Module) -> Result<NameFaults, Memory>
 {
     let names = module_names(alloc, tree.items.as_slice())?;
     let imported = imports_in(alloc, tree.items.as_slice())?;
-    let exceptions = Exceptions::new(alloc, tree)?;
     let pieces = pieces_of(alloc, tree)?;
     let sites = sites_of(alloc, pieces.as_slice())?;
     let all = sites.as_slice();
@@ -72,12 +77,7 @@ pub fn name_faults(alloc: Global, tree: &Module) -> Result<NameFaults, Memory>
         ),
         break_outside_loop: least_line(&BreakOutsideLoop, all),
         bare_raise: least_line(&BareRaise, all),
-        exception_name: least_line(
-            &ExceptionName {
-                exceptions: &exceptions,
-            },
-            all,
-        ),
+        exception_name: least_line(&ExceptionName { tables }, all),
         super_: least_line(&Super, all),
         arguments: least_line(&Arguments, all),
         unknown_name: least_line(&UnknownName { names: &names }, all),

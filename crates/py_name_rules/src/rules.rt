@@ -4,11 +4,12 @@ ghost use Rattle.py_scopes.specs.NameRows.{special_def, typing_use, no_loop, no_
 ghost use Rattle.py_uses.specs.Seen.{seen};
 
 use crate::earliest::Rule;
-use crate::exceptions::Exceptions;
+use crate::exceptions::is_exception_name;
 use crate::known::{is_built_name, is_typing_name};
 use crate::scope::Scope;
 use crate::underscores::{Spelling, is_spelled, mentions, names};
 use py_name_sets::NameSet;
+use py_tables::Tables;
 use py_uses::Use;
 
 /// A `def` with two underscores at both ends of its name, but `__init__` in a class.
@@ -115,17 +116,17 @@ impl Rule for BareRaise {
 /// A clause's name that is no exception class, or is a local.
 #[derive(Drop)]
 pub(crate) struct ExceptionName<'s, 'm> {
-    pub(crate) exceptions: &'s Exceptions<'m>,
+    pub(crate) tables: &'s Tables<'m>,
 }
 
 impl<'s, 'm> Rule for ExceptionName<'s, 'm> {
     ghost use Rattle.py_scopes.specs.NameRows.{no_exception};
 
-    ghost breaks = { λ rule. no_exception rule.exceptions.now };
+    ghost breaks = { λ rule. no_exception rule.tables.now };
 
     fn is_broken<'u>(&self, scope: &Scope<'u>, use_: Use<'u>) -> bool {
         match use_ {
-            Use::Catches(name) => scope.has_local(name) || !self.exceptions.is_exception_name(name),
+            Use::Catches(name) => scope.has_local(name) || !is_exception_name(self.tables, name),
             _ => false,
         }
     }

@@ -1,4 +1,5 @@
 pub mod Levels
 pub mod Assigned
 pub mod Counts
+pub mod Numbers
 pub mod Orders

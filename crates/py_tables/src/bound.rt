@@ -41,6 +41,13 @@ impl<'m> Spellings<'m> {
         Ok(())
     }
 
+    /// The names, in order.
+    pub fn names(&self) -> &[&'m Name]
+        ensures { map (λ name. name.now) result.now ≡ self.now }
+    {
+        self.names.as_slice()
+    }
+
     /// Whether a name is spelled as one of these.
     pub fn has(&self, name: &Name) -> bool
         ensures { result ≡ is_among self.now name.now }

@@ -1,5 +1,5 @@
 // Functions and classes of a module, by their numbers.
-ghost use Rattle.std.specs.Prelude.{◌≡◌, ◌+◌, ◌<◌, ◌^◌, [], ◌∷◌, ◌++◌, length, map, slice_get, IfOk, OnOk};
+ghost use Rattle.std.specs.Prelude.{◌≡◌, [], ◌∷◌, ◌++◌, length, map, slice_get, IfOk, OnOk};
 ghost use Rattle.std.specs.Option.{option_copied, option_map};
 ghost use Rattle.py_meaning.specs.Methods.{named};
 ghost use Rattle.py_plain.specs.Program.{function, methods_in, methods_from, assigned, base_of, class_info, program_of, numbered};
@@ -7,6 +7,7 @@ ghost use Rattle.py_tables.specs.Rows.{constants_in, assigned_now, item_function
 
 use crate::bound::{Spellings, locals_of};
 use crate::built::built_class_named;
+use py_name_sets::NameMap;
 use py_syntax::{Class, Expr, Func, Item, Member, Module, Stmt, StmtKind, Target};
 use pyn_base::{BuiltClass, ClassId, FuncId, Memory, Name};
 use std::alloc::Global;
@@ -87,10 +88,23 @@ impl<'m> Model for ClassRow<'m> {
 }
 
 impl<'m> ClassRow<'m> {
+    pub fn name(&self) -> &'m Name
+        ensures { result.now ≡ self.now.name }
+    {
+        self.name
+    }
+
     pub fn base(&self) -> ClassId
         ensures { result ≡ self.now.base }
     {
         self.base
+    }
+
+    /// The names of its methods with their numbers, in order.
+    pub fn methods(&self) -> &[(&'m Name, FuncId)]
+        ensures { map (λ row. (row.0.now, row.1)) result.now ≡ self.now.methods }
+    {
+        self.methods.as_slice()
     }
 
     /// The method of a name.
@@ -119,12 +133,75 @@ fn method_in(rows: &[(&Name, FuncId)], name: &Name) -> Option<FuncId>
     None
 }
 
+/// Classes in the order of their lines, found by their names in logarithmic time.
+#[derive(Drop)]
+struct ClassRows<'m> {
+    rows: Vec<ClassRow<'m>>,
+    ids: NameMap<'m, ClassId>,
+}
+
+impl<'m> Model for ClassRows<'m> {
+    ghost use Rattle.std.specs.Prelude.{◌≡◌, List};
+    ghost use Rattle.std.specs.Coded.{codes, coded_list};
+    ghost use Rattle.py_syntax.specs.contracts.expr.Expr as expr;
+    ghost use Rattle.py_plain.specs.Program.{ClassInfo, numbered};
+
+    ghost Value = { List ClassInfo };
+
+    ghost coded = { Prim.hlevel (codes, expr.the_row.coded) };
+
+    ghost view = { λ c. c.rows.items };
+
+    ghost invariant = { λ c. c.ids ≡ numbered 0 c.rows.items };
+}
+
+impl<'m> ClassRows<'m> {
+    fn new(alloc: Global) -> ClassRows<'m>
+        ensures { result ≡ [] }
+    {
+        ClassRows {
+            rows: Vec::new(alloc),
+            ids: NameMap::new(alloc),
+        }
+    }
+
+    fn as_slice(&self) -> &[ClassRow<'m>]
+        ensures { result.now ≡ self.now }
+    {
+        self.rows.as_slice()
+    }
+
+    /// The first class of a name.
+    fn class_named(&self, name: &Name) -> Option<ClassId>
+        ensures { result ≡ named (numbered 0 self.now) name.now }
+    {
+        self.ids.get(name)
+    }
+
+    #[tactic(auto, using(crate::proofs::Numbers::numbered_push))]
+    fn push(&mut self, row: ClassRow<'m>) -> Result<(), Memory>
+        ensures { OnOk result (self.new ≡ self.old ++ row.entry ∷ []) }
+    {
+        let len = self.rows.len();
+        let class = ClassId::Own(number_of(len)?);
+        let name = row.name;
+        self.rows.push(row)?;
+        match self.ids.insert(name, class) {
+            Ok(_) => Ok(()),
+            Err(_) => {
+                self.rows.truncate(len);
+                Err(Memory)
+            }
+        }
+    }
+}
+
 /// The tables of a module, which a contract sees as what the meaning needs of it.
 #[derive(Drop)]
 pub struct Tables<'m> {
     tree: &'m Module,
     functions: Vec<FunctionRow<'m>>,
-    classes: Vec<ClassRow<'m>>,
+    classes: ClassRows<'m>,
 }
 
 impl<'m> Model for Tables<'m> {
@@ -137,7 +214,7 @@ impl<'m> Model for Tables<'m> {
 
     ghost coded = { Prim.hlevel (codes, expr.the_row.coded, func.the_row.coded) };
 
-    ghost view = { λ t. record { functions = t.functions.items; classes = t.classes.items; bindings = bindings_from 0 0 t.tree.now.items } };
+    ghost view = { λ t. record { functions = t.functions.items; classes = t.classes; bindings = bindings_from 0 0 t.tree.now.items } };
 }
 
 impl<'m> Tables<'m> {
@@ -146,7 +223,7 @@ impl<'m> Tables<'m> {
         ensures { IfOk result (λ tables. tables ≡ program_of tree.now) }
     {
         let mut functions = Vec::new(alloc);
-        let mut classes = Vec::new(alloc);
+        let mut classes = ClassRows::new(alloc);
         for item in tree.items.as_slice() {
             add_item(alloc, &mut functions, &mut classes, item)?;
         }
@@ -172,7 +249,14 @@ impl<'m> Tables<'m> {
     pub fn class(&self, number: u32) -> Option<&ClassRow<'m>>
         ensures { option_copied result ≡ slice_get self.now.classes number }
     {
-        self.classes.get(number as usize)
+        self.classes.as_slice().get(number as usize)
+    }
+
+    /// The first class of a name.
+    pub fn class_named(&self, name: &Name) -> Option<ClassId>
+        ensures { result ≡ named (numbered 0 self.now.classes) name.now }
+    {
+        self.classes.class_named(name)
     }
 
     pub fn functions(&self) -> &[FunctionRow<'m>]
@@ -201,11 +285,11 @@ fn number_of(count: usize) -> Result<u32, Memory>
 fn add_item<'m>(
     alloc: Global,
     functions: &mut Vec<FunctionRow<'m>>,
-    classes: &mut Vec<ClassRow<'m>>,
+    classes: &mut ClassRows<'m>,
     item: &'m Item,
 ) -> Result<(), Memory>
-    ensures functions { OnOk result (functions.new.items ≡ functions.old.items ++ item_functions (length classes.old.items) item.now) }
-    ensures classes { OnOk result (classes.new.items ≡ item_classes classes.old.items (length functions.old.items) item.now) }
+    ensures functions { OnOk result (functions.new.items ≡ functions.old.items ++ item_functions (length classes.old) item.now) }
+    ensures classes { OnOk result (classes.new ≡ item_classes classes.old (length functions.old.items) item.now) }
 {
     match item {
         Item::Func(f) => {
@@ -225,15 +309,15 @@ fn add_item<'m>(
 fn add_class<'m>(
     alloc: Global,
     functions: &mut Vec<FunctionRow<'m>>,
-    classes: &mut Vec<ClassRow<'m>>,
+    classes: &mut ClassRows<'m>,
     class: &'m Class,
 ) -> Result<(), Memory>
-    ensures functions { OnOk result (functions.new.items ≡ functions.old.items ++ methods_in (length classes.old.items) class.now.members) }
-    ensures classes { OnOk result (classes.new.items ≡ classes.old.items ++ class_info classes.old.items (length functions.old.items) class.now ∷ []) }
+    ensures functions { OnOk result (functions.new.items ≡ functions.old.items ++ methods_in (length classes.old) class.now.members) }
+    ensures classes { OnOk result (classes.new ≡ classes.old ++ class_info classes.old (length functions.old.items) class.now ∷ []) }
 {
-    let owner = number_of(classes.len())?;
+    let owner = number_of(classes.as_slice().len())?;
     let first = number_of(functions.len())?;
-    let row = class_row(alloc, classes.as_slice(), first, class)?;
+    let row = class_row(alloc, classes, first, class)?;
     add_methods(alloc, functions, owner, class.members.as_slice())?;
     classes.push(row)?;
     Ok(())
@@ -311,29 +395,13 @@ fn constants_of<'m>(
     Ok(constants)
 }
 
-/// The first class of a name.
-fn own_class_named(classes: &[ClassRow], name: &Name) -> Option<ClassId>
-    requires { length classes.now < 2 ^ 32 }
-    ensures { result ≡ named (numbered 0 classes.now) name.now }
-{
-    let mut number = 0;
-    for row in classes {
-        if name.is_same(row.name) {
-            return Some(ClassId::Own(number));
-        }
-        number += 1;
-    }
-    None
-}
-
-fn base_of(classes: &[ClassRow], name: &Option<Name>) -> ClassId
-    requires { length classes.now < 2 ^ 32 }
+fn base_of(classes: &ClassRows, name: &Option<Name>) -> ClassId
     ensures { result ≡ base_of classes.now name.now }
 {
     let Some(name) = name else {
         return ClassId::Built(BuiltClass::Object);
     };
-    if let Some(class) = own_class_named(classes, name) {
+    if let Some(class) = classes.class_named(name) {
         return class;
     }
     match built_class_named(name) {
@@ -344,11 +412,10 @@ fn base_of(classes: &[ClassRow], name: &Option<Name>) -> ClassId
 
 fn class_row<'m>(
     alloc: Global,
-    classes: &[ClassRow<'m>],
+    classes: &ClassRows<'m>,
     functions: u32,
     class: &'m Class,
 ) -> Result<ClassRow<'m>, Memory>
-    requires { length classes.now < 2 ^ 32 }
     ensures { IfOk result (λ row. row ≡ class_info classes.now functions class.now) }
 {
     Ok(ClassRow {

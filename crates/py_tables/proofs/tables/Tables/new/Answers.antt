@@ -7,7 +7,7 @@ pub loop-item-preserved : goal.loop-item-preserved
 loop-item-preserved c =
     let items = c.args.tree.now.items in
     let fs = c.loop-item.functions.items in
-    let cs = c.loop-item.classes.items in
+    let cs = c.loop-item.classes in
     let one = c.item-item.result in
     let step = stepped items c.loop-item.item-index one (rw c.as_slice-item-items.ensures at c.loop-item-test.true) (rw c.as_slice-item-items.ensures at c.item-item.is) in
     record {

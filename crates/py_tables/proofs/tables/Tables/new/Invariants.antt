@@ -4,6 +4,6 @@ use Rattle.py_tables.proofs.tables.Tables.new.Given as goal
 
 abbrev pub invariant-loop-item : goal.invariant-loop-item
 invariant-loop-item l = record {
-  functions : l.functions.items ++ functions_from (length l.classes.items) (drop l.item-index l.tree.items) ≡ functions_from 0 l.tree.items;
-  classes : classes_from l.classes.items (length l.functions.items) (drop l.item-index l.tree.items) ≡ classes_from [] 0 l.tree.items;
+  functions : l.functions.items ++ functions_from (length l.classes) (drop l.item-index l.tree.items) ≡ functions_from 0 l.tree.items;
+  classes : classes_from l.classes (length l.functions.items) (drop l.item-index l.tree.items) ≡ classes_from [] 0 l.tree.items;
 }

@@ -1,1 +1,3 @@
 pub mod Earlier
+pub mod ExampleLevels
+pub mod MethodIds

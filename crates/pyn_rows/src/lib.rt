@@ -10,4 +10,6 @@ mod integers;
 #[cfg(test)]
 mod real_desk;
 #[cfg(test)]
+mod refusals;
+#[cfg(test)]
 mod top_call;

@@ -4,7 +4,7 @@ use pynguin_job::{Status, pynguin};
 use std::alloc::Global;
 use std::test::Fail;
 
-const WORDS: &str = "--module one.py --suite test_one.py --report report.txt";
+pub(crate) const WORDS: &str = "--module one.py --suite test_one.py --report report.txt";
 
 const ONE: &str = "def f():\n    return 1\n";
 
@@ -14,7 +14,7 @@ const ONE_SUITE: &str =
 const ONE_REPORT: &str =
     "pynguin report 1\nmodule one\nsteps 20000\nmutants 0\ntest 0 passes\ngoal 0 entry 1 covered 0\ngoal 1 line 2 covered 0\ngoals 2 of 2\nkills 0 of 0\nminimal yes\n";
 
-fn words(alloc: Global, line: &str) -> Result<Vec<Text>, Fail> {
+pub(crate) fn words(alloc: Global, line: &str) -> Result<Vec<Text>, Fail> {
     let mut words = Vec::new(alloc);
     for word in line.split(' ') {
         words.push(Text::from_str(alloc, word)?)?;
@@ -22,12 +22,21 @@ fn words(alloc: Global, line: &str) -> Result<Vec<Text>, Fail> {
     Ok(words)
 }
 
-// A desk with the module `one.py`, which fails at these calls.
-fn desk(alloc: Global, text: &str, failing: Vec<(u64, Break)>) -> Result<MemoryDesk, Fail> {
+/// A desk with the module `one.py`, which fails at these calls.
+pub(crate) fn desk(
+    alloc: Global,
+    text: &str,
+    failing: Vec<(u64, Break)>,
+) -> Result<MemoryDesk, Fail> {
     let mut files = Vec::new(alloc);
     let bytes = Bytes::from_slice(alloc, text.as_bytes())?;
     files.push((Text::from_str(alloc, "one.py")?, bytes))?;
     Ok(MemoryDesk::new(alloc, files, failing)?)
+}
+
+/// Whether exactly this was said.
+pub(crate) fn has_said(desk: &MemoryDesk, text: &str) -> bool {
+    desk.said() == text.as_bytes()
 }
 
 fn is_file(desk: &MemoryDesk, name: &str, text: &str) -> bool {
@@ -62,12 +71,13 @@ fn modules_get_their_suite_and_report(rt: HostRuntime) -> Result<(), Fail> {
         assert!(rt; is_file(&desk, "one.py", text));
         assert_eq!(rt; desk.calls().len(), 3);
         assert_eq!(rt; desk.faults(), 0);
+        assert!(rt; has_said(&desk, ""));
     }
     Ok(())
 }
 
 #[test]
-fn words_and_modules_are_refused(rt: HostRuntime) -> Result<(), Fail> {
+fn words_are_refused(rt: HostRuntime) -> Result<(), Fail> {
     let alloc = rt.alloc();
     let bad_words = [
         "",
@@ -88,25 +98,7 @@ fn words_and_modules_are_refused(rt: HostRuntime) -> Result<(), Fail> {
             pynguin(alloc, words.as_slice(), &mut desk),
             Status::BadWords
         );
-        assert_eq!(rt; desk.calls().len(), 0);
-    }
-    let bad_modules = [
-        "def f(a):\n    return 1\n",
-        "def f():\n",
-        "def f():\n    return 01\n",
-        "def f():\n    return 1",
-        "def f():\n    return 1\n\n\ndef f():\n    return 2\n",
-        "def f():\n    return 1\n\ndef g():\n    return 2\n",
-    ];
-    for text in bad_modules {
-        let mut desk = desk(alloc, text, Vec::new(alloc))?;
-        let words = words(alloc, WORDS)?;
-        assert_eq!(rt;
-            pynguin(alloc, words.as_slice(), &mut desk),
-            Status::Refused
-        );
-        assert!(rt; desk.file("test_one.py").is_none());
-        assert!(rt; desk.file("report.txt").is_none());
+        assert!(rt; has_said(&desk, "bad words\n"));
         assert_eq!(rt; desk.calls().len(), 1);
     }
     Ok(())
@@ -115,6 +107,11 @@ fn words_and_modules_are_refused(rt: HostRuntime) -> Result<(), Fail> {
 #[test]
 fn each_call_fails_in_turn(rt: HostRuntime) -> Result<(), Fail> {
     let alloc = rt.alloc();
+    let said = [
+        "one.py: cannot be read\n",
+        "test_one.py: cannot be written\n",
+        "report.txt: cannot be written\n",
+    ];
     for how in [Break::Before, Break::Half] {
         for number in 0..3u64 {
             let mut failing = Vec::new(alloc);
@@ -124,7 +121,9 @@ fn each_call_fails_in_turn(rt: HostRuntime) -> Result<(), Fail> {
             assert_eq!(rt; pynguin(alloc, words.as_slice(), &mut desk), Status::Fault);
             assert_eq!(rt; desk.faults(), 1);
             let calls = desk.calls();
-            assert_eq!(rt; calls.len() as u64, number + 1);
+            assert_eq!(rt; calls.len() as u64, number + 2);
+            assert!(rt; calls[number as usize].failed);
+            assert!(rt; has_said(&desk, said[number as usize]));
             assert_eq!(rt; is_file(&desk, "test_one.py", ONE_SUITE), number == 2);
             let half = ONE_REPORT.as_bytes();
             let report = desk.file("report.txt");
@@ -147,15 +146,21 @@ fn a_missing_module_is_a_fault(rt: HostRuntime) -> Result<(), Fail> {
     assert_eq!(rt; desk.faults(), 1);
     assert!(rt; desk.file("test_one.py").is_none());
     let calls = desk.calls();
-    assert_eq!(rt; calls.len(), 1);
+    assert_eq!(rt; calls.len(), 2);
     assert!(rt; calls[0].failed && calls[0].kind == CallKind::Read);
+    assert!(rt; !calls[1].failed && calls[1].kind == CallKind::Say);
+    assert!(rt; has_said(&desk, "one.py: cannot be read\n"));
     Ok(())
 }
 
 #[test]
 fn a_module_past_its_limit_is_refused(rt: HostRuntime) -> Result<(), Fail> {
     let alloc = rt.alloc();
-    for length in [262_144usize, 262_145] {
+    let rows = [
+        (262_144usize, "one.py:1: form\n"),
+        (262_145, "one.py:1: too long\n"),
+    ];
+    for (length, said) in rows {
         let mut text = Text::new(alloc);
         for _ in 1..length {
             text.push('#')?;
@@ -168,6 +173,33 @@ fn a_module_past_its_limit_is_refused(rt: HostRuntime) -> Result<(), Fail> {
             Status::Refused
         );
         assert_eq!(rt; desk.faults(), 0);
+        assert!(rt; has_said(&desk, said));
+    }
+    Ok(())
+}
+
+#[test]
+fn a_say_that_fails_leaves_the_status(rt: HostRuntime) -> Result<(), Fail> {
+    let alloc = rt.alloc();
+    // The words, the module, the calls that fail, and the status.
+    let rows = [
+        ("", ONE, [0u64, 9], Status::BadWords),
+        (WORDS, "x = [1]\n", [1, 9], Status::Refused),
+        (WORDS, ONE, [0, 1], Status::Fault),
+        (WORDS, ONE, [2, 3], Status::Fault),
+    ];
+    for (line, text, numbers, status) in rows {
+        let mut failing = Vec::new(alloc);
+        for number in numbers {
+            failing.push((number, Break::Before))?;
+        }
+        let mut desk = desk(alloc, text, failing)?;
+        let words = words(alloc, line)?;
+        assert_eq!(rt; pynguin(alloc, words.as_slice(), &mut desk), status);
+        assert!(rt; has_said(&desk, ""));
+        let calls = desk.calls();
+        let last = &calls[calls.len() - 1];
+        assert!(rt; last.failed && last.kind == CallKind::Say);
     }
     Ok(())
 }

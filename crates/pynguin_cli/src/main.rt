@@ -18,19 +18,15 @@ fn words_of<R: Env + AllocGlobal>(rt: &R) -> io::Result<Vec<Text>> {
     Ok(words)
 }
 
-// How the program ends where its words can't be had: one that isn't text is refused.
-fn unread_words(error: &io::Error) -> Status {
-    match error.kind() {
-        io::ErrorKind::OutOfMemory => Status::OutOfMemory,
-        _ => Status::BadWords,
-    }
-}
-
 fn main(rt: HostRuntime) -> ExitCode {
     let alloc = rt.alloc();
     let words = match words_of(&rt) {
         Ok(words) => words,
-        Err(error) => return ExitCode::from(unread_words(&error).code()),
+        Err(error) => match error.kind() {
+            io::ErrorKind::OutOfMemory => return ExitCode::from(Status::OutOfMemory.code()),
+            // A word isn't text: the words are refused, as no words are.
+            _ => Vec::new(alloc),
+        },
     };
     let mut desk = RealDesk::new(rt);
     let status = pynguin(alloc, words.as_slice(), &mut desk);

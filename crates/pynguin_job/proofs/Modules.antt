@@ -1,5 +1,5 @@
 -- A module that is read has the first form.
-use Rattle.std.proofs.Common.{◌≡◌, refl, Bool, true, false, cond, List, ℕ, length, nat_le, Result, Ok, Err}
+use Rattle.std.proofs.Common.{◌≡◌, Bool, true, false, cond, List, ℕ, length, nat_le, Result, Ok, Err}
 use Rattle.pyn_base.specs.declared.construct.Construct.TheVariants.{TooLong}
 use Rattle.py_syntax.specs.declared.module.Module.{Module}
 use Rattle.py_syntax.specs.declared.refusal.Refusal.{Refusal}
@@ -7,7 +7,7 @@ use Rattle.py_syntax.specs.declared.refusal.Refusal.TheVariants.{Refused}
 use Rattle.py_language.specs.FirstForm.{first_form}
 use Rattle.pyn_model.specs.FirstModules.{IsFirst}
 use Rattle.pyn_model.proofs.Accepted.{first_form-IsFirst}
-use Rattle.pynguin_job.specs.Outputs.{module_in, module_limit}
+use Rattle.pynguin_job.specs.Reading.{module_in, module_limit}
 
 within : (t : Bool) (text : List ℕ) (m : Module) → ◌≡◌ {A = Result Module Refusal} (cond t (first_form text) (Err (Refused 1 TooLong))) (Ok m) → IsFirst m
 within true text m e = first_form-IsFirst text m e

@@ -1,5 +1,5 @@
 -- The headline: the suite can be trusted.
-use Rattle.std.specs.Prelude.{◌≡◌, ℕ, true, List, length, Some, Ok, All, chars, encode_utf8_all}
+use Rattle.std.specs.Prelude.{◌≡◌, ℕ, List, length, Some, Ok, All, chars, encode_utf8_all}
 use Rattle.std.specs.FinMap.{get}
 use Rattle.pyn_base.specs.Files.{Files, content}
 use Rattle.py_syntax.specs.declared.module.Module.{Module}
@@ -13,7 +13,7 @@ use Rattle.pyn_model.specs.FileRun.{TestRun, file_run}
 use Rattle.pyn_model.specs.Report.{report_text}
 use Rattle.pyn_model.specs.Judged.{judged, goals_taken, IsMinimal}
 use Rattle.pynguin_job.specs.declared.words.Job.{Job}
-use Rattle.pynguin_job.specs.Outputs.{module_in}
+use Rattle.pynguin_job.specs.Reading.{module_in}
 
 -- The files of a desk before and after a job that is done.
 pub record IsTrusted (job : Job) (before after : Files) : Type 0 where

@@ -3,11 +3,21 @@ ghost use Rattle.std.specs.Prelude.{◌≡◌, ◌<◌, IfSome, IsTrue, bytes_eq
 ghost use Rattle.std.specs.List.{list_all};
 ghost use Rattle.py_language.specs.TokensCharacters.{is_letter, is_word};
 ghost use Rattle.py_language.specs.TokensNames.{is_name};
+ghost use Rattle.pynguin_job.specs.Faults.{path_of};
 ghost use Rattle.pynguin_job.specs.Words.{job_at, job_of, has_form, last_part, is_module_name, module_name_of, word};
 
 use py_lexer::keyword_of;
 use pyn_base::{Memory, Name, Text};
 use std::alloc::Global;
+
+/// A file that a job names.
+#[derive(Clone, Copy, Debug, PartialEq, Eq)]
+pub enum JobFile {
+    /// The module.
+    Source,
+    Suite,
+    Report,
+}
 
 /// What the words ask for.
 #[derive(Debug, Drop)]
@@ -20,6 +30,19 @@ pub struct Job {
     pub report: Text,
     /// The module's name.
     pub name: Name,
+}
+
+impl Job {
+    /// The path of one of its files.
+    pub fn path(&self, file: JobFile) -> &Text
+        ensures { result.now ≡ path_of self.now file }
+    {
+        match file {
+            JobFile::Source => &self.source,
+            JobFile::Suite => &self.suite,
+            JobFile::Report => &self.report,
+        }
+    }
 }
 
 /// Why the words give no job.

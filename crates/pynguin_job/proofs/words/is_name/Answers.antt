@@ -1,4 +1,4 @@
-use Rattle.std.proofs.Common.{◌≡◌, ◌∙◌, sym, refl, ap, ℕ, List, ◌∷◌, true, ◌&&◌}
+use Rattle.std.proofs.Common.{◌≡◌, ◌∙◌, sym, ap, ℕ, List, ◌∷◌, true, ◌&&◌}
 use Rattle.std.specs.List.{list_all}
 use Rattle.py_language.specs.TokensCharacters.{is_letter, is_word}
 use Rattle.py_language.specs.TokensNames.{is_name}

@@ -1,4 +1,4 @@
-use Rattle.std.proofs.Common.{◌≡◌, ◌∙◌, ap, bytes_eq, sym, is_some}
+use Rattle.std.proofs.Common.{◌∙◌, ap, bytes_eq, sym, is_some}
 use Rattle.py_language.specs.TokensNames.{keywords, listed}
 use Rattle.pynguin_job.proofs.Identifiers.{no_module, module_or_pytest}
 use Rattle.pynguin_job.proofs.Literals.{pytest_word}

@@ -1,5 +1,0 @@
-use Rattle.pynguin_job.proofs.Writes.{WroteFirst}
-use Rattle.pynguin_job.proofs.run.write_all.Given as goal
-
-abbrev pub invariant-loop-output : goal.invariant-loop-output
-invariant-loop-output g l = WroteFirst l.outputs l.output-index (g.D.Desk.state l.initial.desk) (g.D.Desk.state l.desk)

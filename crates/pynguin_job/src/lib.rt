@@ -6,8 +6,8 @@
 //! its steps; the report is exactly that run's; and no test can go without losing a goal. The other clauses say
 //! why each status comes, what a run leaves on the desk, and what it says.
 //!
-//! Each refusal has its line and its construct. A fault is data (`JobFault`) up to the one place that turns it into text, and
-//! `say` is called in one place, last.
+//! A module is read by the grammar, judged by acceptance, and then has to have the first form. Each refusal has its line and its
+//! construct. A fault is data (`JobFault`) up to the one place that turns it into text, and `say` is called in one place, last.
 //!
 //! Only this crate sees a desk, and it never sees which one.
 #![tactic(auto)]

@@ -1,5 +1,5 @@
 -- The statements that assertions are (Language Reference 7.3): of a variable or an attribute, by `is`, `==` or `isinstance`.
-use Rattle.std.specs.Prelude.{ℕ, Bool, if◌then◌else◌, List, [], ◌∷◌, map, Option, Some, None, codes, slice_get}
+use Rattle.std.specs.Prelude.{ℕ, if◌then◌else◌, List, [], ◌∷◌, None, codes, slice_get}
 use Rattle.pyn_base.specs.declared.class.BuiltClass.{BuiltClass}
 use Rattle.pyn_base.specs.declared.class.ClassId.{ClassId}
 use Rattle.pyn_base.specs.declared.class.ClassId.TheVariants.{Built, Own}

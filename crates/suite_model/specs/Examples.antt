@@ -23,7 +23,7 @@ use Rattle.py_syntax.specs.declared.stmt.StmtKind.TheVariants as y
 use Rattle.py_syntax.specs.declared.stmt.Target.TheVariants as target
 use Rattle.py_plain.specs.Program.{Program, program_of}
 use Rattle.suite_model.specs.declared.callable.Callable.TheVariants as callable
-use Rattle.suite_model.specs.declared.test.Prim.TheVariants as prim
+use Rattle.suite_model.specs.declared.test.Primitive.TheVariants as prim
 use Rattle.suite_model.specs.declared.test.Step.{Step}
 use Rattle.suite_model.specs.declared.test.Step.TheVariants as step
 use Rattle.suite_model.specs.declared.test.Test.{Test}

@@ -10,8 +10,8 @@ use Rattle.py_syntax.specs.declared.stmt.StmtKind.TheVariants.{Assign}
 use Rattle.py_syntax.specs.declared.stmt.Target.TheVariants as target
 use Rattle.py_plain.specs.Names.{function_at}
 use Rattle.py_plain.specs.Program.{Function, ClassInfo, Program}
-use Rattle.suite_model.specs.declared.test.Prim.{Prim}
-use Rattle.suite_model.specs.declared.test.Prim.TheVariants as prim
+use Rattle.suite_model.specs.declared.test.Primitive.{Primitive}
+use Rattle.suite_model.specs.declared.test.Primitive.TheVariants as prim
 use Rattle.suite_model.specs.declared.test.Step.{Step}
 use Rattle.suite_model.specs.declared.test.Step.TheVariants as step
 use Rattle.suite_model.specs.declared.test.Test.{Test}
@@ -31,7 +31,7 @@ abbrev pub integer : ℤ → Expr
 integer (pos n) = expression (e.IntLit (pos n))
 integer (negsuc n) = expression (e.Unary Minus (expression (e.IntLit (pos (suc n)))))
 
-abbrev pub literal : Prim → Expr
+abbrev pub literal : Primitive → Expr
 literal prim.None = expression e.NoneLit
 literal (prim.Bool b) = expression (e.BoolLit b)
 literal (prim.Int n) = integer n

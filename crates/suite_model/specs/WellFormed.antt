@@ -9,8 +9,8 @@ use Rattle.py_plain.specs.Names.{function_at}
 use Rattle.py_plain.specs.Program.{Function, Program, program_of}
 use Rattle.suite_model.specs.declared.callable.Callable.{Callable}
 use Rattle.suite_model.specs.declared.callable.Callable.TheVariants as callable
-use Rattle.suite_model.specs.declared.test.Prim.{Prim}
-use Rattle.suite_model.specs.declared.test.Prim.TheVariants as prim
+use Rattle.suite_model.specs.declared.test.Primitive.{Primitive}
+use Rattle.suite_model.specs.declared.test.Primitive.TheVariants as prim
 use Rattle.suite_model.specs.declared.test.Step.{Step}
 use Rattle.suite_model.specs.declared.test.Step.TheVariants as step
 use Rattle.suite_model.specs.declared.test.Test.{Test}
@@ -19,7 +19,7 @@ use Rattle.suite_model.specs.declared.ty.Ty.TheVariants as ty
 use Rattle.suite_model.specs.Callables.{callables_of, is_callable, function_signature, method_signature, constructor_signature}
 use Rattle.suite_model.specs.Types.{fits}
 
-abbrev pub prim_type : Prim → Ty
+abbrev pub prim_type : Primitive → Ty
 prim_type prim.None = ty.NoneType
 prim_type (prim.Bool b) = ty.Bool
 prim_type (prim.Int n) = ty.Int

@@ -21,5 +21,5 @@ pub use callable::Callable;
 pub use examples::{statements_by_example, types_by_example};
 pub use laws::{laws_of_kept_tests, laws_of_types};
 pub use suite::{Assert, Shown, Subject, Suite, TestCase, Wants};
-pub use test::{Prim, Step, Test, TestEnd};
+pub use test::{Primitive, Step, Test, TestEnd};
 pub use ty::Ty;

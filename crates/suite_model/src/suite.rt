@@ -1,6 +1,6 @@
 // Suites: tests with their assertions, as they stand in a file.
 
-use crate::{Prim, Test};
+use crate::{Primitive, Test};
 use py_syntax::Line;
 use pyn_base::{ClassId, Name};
 use sqlite_items::Items;
@@ -8,7 +8,7 @@ use sqlite_items::Items;
 /// A display: a literal, or a list, tuple or dict of displays.
 #[derive(Drop)]
 pub enum Shown {
-    Prim(Prim),
+    Prim(Primitive),
     List(Items<Shown>),
     Tuple(Items<Shown>),
     /// Each key with its value.
@@ -26,7 +26,7 @@ pub enum Subject {
 #[derive(Drop)]
 pub enum Wants {
     /// `is`, with None or a truth value
-    Is(Prim),
+    Is(Primitive),
     /// `==`
     Equals(Shown),
     /// `isinstance`

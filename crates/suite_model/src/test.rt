@@ -5,7 +5,7 @@ use sqlite_items::Items;
 
 /// A literal that a test writes.
 #[derive(Drop)]
-pub enum Prim {
+pub enum Primitive {
     None,
     Bool(bool),
     Int(PyInt),
@@ -15,7 +15,7 @@ pub enum Prim {
 /// A step of a test. Step `k` defines variable `k`, from 0, and names earlier variables alone.
 #[derive(Drop)]
 pub enum Step {
-    Prim(Prim),
+    Prim(Primitive),
     /// A list of these variables.
     ListOf(Ids),
     /// A dict of these variables, key and value.

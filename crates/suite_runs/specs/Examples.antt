@@ -16,7 +16,7 @@ use Rattle.suite_model.specs.declared.suite.Assert.{Assert}
 use Rattle.suite_model.specs.declared.suite.Subject.TheVariants.{Whole}
 use Rattle.suite_model.specs.declared.suite.TestCase.{TestCase}
 use Rattle.suite_model.specs.declared.suite.Wants.TheVariants.{Is}
-use Rattle.suite_model.specs.declared.test.Prim.TheVariants as prim
+use Rattle.suite_model.specs.declared.test.Primitive.TheVariants as prim
 use Rattle.suite_model.specs.declared.test.Step.{Step}
 use Rattle.suite_model.specs.declared.test.Step.TheVariants as step
 use Rattle.suite_model.specs.Assertions.{assertion}

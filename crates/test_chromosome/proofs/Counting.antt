@@ -7,7 +7,7 @@ use Rattle.py_syntax.specs.declared.module.Member.{Member}
 use Rattle.py_syntax.specs.declared.module.Member.TheVariants as member
 use Rattle.py_plain.specs.Program.{methods_from}
 use Rattle.suite_model.specs.declared.callable.Callable.{Callable}
-use Rattle.suite_model.specs.Callables.{where_public, methods_called, callables_from}
+use Rattle.suite_model.specs.Callables.{callables_from}
 use Rattle.test_chromosome.specs.Counts.{method_count, functions_after, classes_after, item_callables}
 
 counted : (number : ℕ) (members : List Member) → length (methods_from number members) ≡ method_count members

@@ -1,6 +1,5 @@
 -- The callables of one item, and how many functions and classes come before the next.
 use Rattle.std.specs.Prelude.{ℕ, ◌+◌, List, [], ◌∷◌}
-use Rattle.pyn_base.specs.declared.ids.FuncId.{FuncId}
 use Rattle.py_syntax.specs.declared.module.Item.{Item}
 use Rattle.py_syntax.specs.declared.module.Item.TheVariants as item
 use Rattle.py_syntax.specs.declared.module.Member.{Member}

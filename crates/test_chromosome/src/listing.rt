@@ -138,3 +138,13 @@ fn add_methods(
     }
     Ok(())
 }
+
+/// A count as a number. No table has room for more.
+pub(crate) fn number_of(count: u64) -> Result<u32, Memory>
+    ensures { IfOk result (λ number. number ≡ count) }
+{
+    match u32::try_from(count) {
+        Ok(number) => Ok(number),
+        Err(_) => Err(Memory),
+    }
+}

@@ -3,6 +3,7 @@ pub mod BlockForms
 pub mod BlockReading
 pub mod Cutting
 pub mod Erasing
+pub mod Good
 pub mod Headers
 pub mod Members
 pub mod ModuleBack

@@ -1,4 +1,5 @@
 mod Ascii
+mod Characters
 mod Draws
 mod Forms
 mod Inks

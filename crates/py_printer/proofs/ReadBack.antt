@@ -46,11 +46,11 @@ words_ascii (c ∷ cs) e = let two = and_both (is_word c) (list_all is_word cs) 
 letter_word : (c : ℕ) → is_letter c ≡ true → is_word c ≡ true
 letter_word c e = ap (λ v. v || is_digit c) e
 
-name_ascii : (n : List ℕ) → is_name n ≡ true → list_all is_ascii n ≡ true
+pub name_ascii : (n : List ℕ) → is_name n ≡ true → list_all is_ascii n ≡ true
 name_ascii [] e = refl
 name_ascii (c ∷ cs) e = let two = and_both (is_letter c) (list_all is_word cs) e in rw (word_ascii c (letter_word c two.0), words_ascii cs two.1) refl
 
-number_ascii : (n : ℤ) → is_small n ≡ true → IsAscii (decimal (nat_abs n))
+pub number_ascii : (n : ℤ) → is_small n ≡ true → IsAscii (decimal (nat_abs n))
 number_ascii (pos n) e = IsAscii-decimal_wide n (grind (arith, nat_tests, e))
 number_ascii (negsuc n) e = absurd (cc)
 
@@ -80,7 +80,7 @@ abbrev pub laid : Pen → List Token → List Spaced
 laid p [] = []
 laid p (y ∷ ys) = (gap p y, y) ∷ laid (put p y) ys
 
-put_text : (p : Pen) (y : Token) → (put p y).text ≡ p.text ++ (space (gap p y) ++ letters y)
+pub put_text : (p : Pen) (y : Token) → (put p y).text ≡ p.text ++ (space (gap p y) ++ letters y)
 unfolding put
 put_text p y = refl
 

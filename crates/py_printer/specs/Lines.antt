@@ -1,6 +1,7 @@
 -- Lines of tokens at their columns, as modules and suite files are made of, and that they are read back.
 use Rattle.std.specs.Prelude.{◌≡◌, ℕ, ◌+◌, Bool, true, false, ◌&&◌, List, [], ◌∷◌, ◌++◌, replicate, None, encode_utf8_all}
 use Rattle.std.specs.List.{list_all}
+use Rattle.std.specs.Str.{all_scalars}
 use Rattle.py_language.specs.declared.token.Logical.{Logical}
 use Rattle.py_language.specs.declared.token.Token.{Token}
 use Rattle.py_language.specs.Tokens.{tokens_of}
@@ -36,3 +37,7 @@ logicals number (l ∷ ls) = record { line = number + l.blanks; column = l.colum
 -- lines are read back, each as the logical line of its tokens
 abbrev pub LinesReadBack : Type 0
 LinesReadBack = (ls : List Line) → list_all is_line ls ≡ true → tokens_of (encode_utf8_all (lines_text ls)) ≡ record { lines = logicals 1 ls; fault = None }
+
+-- the text of tokens that a text can hold is characters of Unicode
+abbrev pub TextsAreCharacters : Type 0
+TextsAreCharacters = (ts : List Token) → list_all is_sound ts ≡ true → all_scalars (text_of ts) ≡ true

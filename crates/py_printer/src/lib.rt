@@ -14,7 +14,9 @@ mod pen;
 mod printer;
 mod slots;
 mod style_examples;
+mod trees;
 
 pub use laws::laws_of_printing;
+pub use pen::Pen;
 pub use printer::print_expr;
 pub use style_examples::style_by_example;

@@ -2,7 +2,7 @@
 ghost use Rattle.std.specs.Prelude.{◌≡◌, ◌||◌, ℕ, ◌+◌, ◌<◌, ◌/◌, ◌%◌, [], ◌∷◌, ◌++◌, chars, nat_abs, OnOk};
 ghost use Rattle.py_language.specs.declared.token.Token.TheVariants as t;
 ghost use Rattle.py_language.specs.TokensCharacters.{is_word, is_digit, is_quote};
-ghost use Rattle.py_spelling.specs.Spelling.{glyph, glyphs, hex_digit};
+ghost use Rattle.py_spelling.specs.Spelling.{by_digits, glyph, glyphs, glyphs_by, hex_digit, sign};
 ghost use Rattle.py_printer.specs.Spaces.{goes_on, needs_space, is_nothing, is_joined, is_loose, is_spaced_place, wants_space, place_after, after_sign, tight_if, opened_after};
 ghost use Rattle.py_printer.specs.Kinds.{mark_last};
 ghost use Rattle.py_printing.specs.SymbolTokens.{super_name};
@@ -264,19 +264,26 @@ fn mark_last(kind: Kind) -> Last
 fn push_glyphs(to: &mut Text, string: &str) -> Result<(), Memory>
     ensures { OnOk result (to.new ≡ to.old ++ glyphs (chars string.now)) }
 {
+    push_glyphs_by(to, false, string)
+}
+
+/// Adds the characters between the quotes of a string, whose backslashes and quotes are escaped by digits where it is nested.
+fn push_glyphs_by(to: &mut Text, nested: bool, string: &str) -> Result<(), Memory>
+    ensures { OnOk result (to.new ≡ to.old ++ glyphs_by nested (chars string.now)) }
+{
     for c in string.chars() {
-        push_glyph(to, c)?;
+        push_glyph(to, nested, c)?;
     }
     Ok(())
 }
 
 /// Adds a character of a string, with its escape where it has one.
-fn push_glyph(to: &mut Text, c: char) -> Result<(), Memory>
-    ensures { OnOk result (to.new ≡ to.old ++ glyph c) }
+fn push_glyph(to: &mut Text, nested: bool, c: char) -> Result<(), Memory>
+    ensures { OnOk result (to.new ≡ to.old ++ glyph nested c) }
 {
     match c {
-        '\\' => push_escape(to, c),
-        '"' => push_escape(to, c),
+        '\\' => push_sign(to, nested, c),
+        '"' => push_sign(to, nested, c),
         '\n' => push_escape(to, 'n'),
         '\t' => push_escape(to, 't'),
         '\r' => push_escape(to, 'r'),
@@ -287,6 +294,18 @@ fn push_glyph(to: &mut Text, c: char) -> Result<(), Memory>
                 to.push(c)
             }
         }
+    }
+}
+
+/// Adds the escape of a backslash or a quote.
+fn push_sign(to: &mut Text, nested: bool, c: char) -> Result<(), Memory>
+    requires { c < 128 }
+    ensures { OnOk result (to.new ≡ to.old ++ sign nested c) }
+{
+    if nested {
+        push_hex(to, c as u32)
+    } else {
+        push_escape(to, c)
     }
 }
 
@@ -312,7 +331,7 @@ fn hex_digit(number: u32) -> char
 /// Adds the escape of a character by its code, which is less than 128.
 fn push_hex(to: &mut Text, code: u32) -> Result<(), Memory>
     requires { code < 128 }
-    ensures { OnOk result (to.new ≡ to.old ++ 92 ∷ 120 ∷ hex_digit (code / 16) ∷ hex_digit (code % 16) ∷ []) }
+    ensures { OnOk result (to.new ≡ to.old ++ by_digits code) }
 {
     push_escape(to, 'x')?;
     to.push(hex_digit(code / 16))?;

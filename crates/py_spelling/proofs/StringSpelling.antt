@@ -17,7 +17,7 @@ use Rattle.py_language.specs.TokensStrings.{quotes, is_tripled, later, closing, 
 use Rattle.py_language.specs.TokensPieces.{piece_len, or_one}
 use Rattle.py_language.specs.TokensLines.{string_token}
 use Rattle.py_language.specs.TokensFaults.{fault_by, string_fault}
-use Rattle.py_spelling.specs.Spelling.{hex_digit, glyph, glyphs, quoted}
+use Rattle.py_spelling.specs.Spelling.{hex_digit, by_digits, sign, glyph, glyphs_by, glyphs, quoted, GlyphsAreCharacters}
 use Rattle.py_spelling.proofs.Longest.{below_get}
 use Rattle.py_spelling.proofs.WordSpelling.{and_both, or_both, not_true, is_inline, all_weaker, Follows, Spelt}
 
@@ -110,19 +110,19 @@ record Plain (c : ℕ) : Type 0 where
   return : (c == 13) ≡ false
   form : (c == 12) ≡ false
 
--- an escape by two hexadecimal digits
-abbrev by_digits : ℕ → List ℕ
-by_digits c = 92 ∷ 120 ∷ hex_digit (c / 16) ∷ hex_digit (c % 16) ∷ []
-
 -- what holds of each glyph holds of these seven kinds
-glyph_cases : (P : ℕ → List ℕ → Type 0) → P 92 (92 ∷ 92 ∷ []) → P 34 (92 ∷ 34 ∷ []) → P 10 (92 ∷ 110 ∷ []) → P 9 (92 ∷ 116 ∷ []) → P 13 (92 ∷ 114 ∷ [])
-    → ((c : ℕ) → c < 128 → P c (by_digits c)) → ((c : ℕ) → Plain c → P c (c ∷ [])) → (c : ℕ) → P c (glyph c)
-glyph_cases P slash quote feed tab return control other c = by (c == 92) (c == 34) (c == 10) (c == 9) (c == 13) (nat_lt c 32) (c == 127) refl refl refl refl refl refl refl
+glyph_cases : (nested : Bool) (P : ℕ → List ℕ → Type 0) → P 92 (92 ∷ 92 ∷ []) → P 34 (92 ∷ 34 ∷ []) → P 10 (92 ∷ 110 ∷ []) → P 9 (92 ∷ 116 ∷ []) → P 13 (92 ∷ 114 ∷ [])
+    → ((c : ℕ) → c < 128 → P c (by_digits c)) → ((c : ℕ) → Plain c → P c (c ∷ [])) → (c : ℕ) → P c (glyph nested c)
+glyph_cases nested P slash quote feed tab return control other c = by (c == 92) (c == 34) (c == 10) (c == 9) (c == 13) (nat_lt c 32) (c == 127) refl refl refl refl refl refl refl
   where
+    signed : (n : Bool) (x : ℕ) → P x (92 ∷ x ∷ []) → P x (by_digits x) → P x (sign n x)
+    signed true x plain digits = digits
+    signed false x plain digits = plain
+
     by : (a b d e f g h : Bool) → (c == 92) ≡ a → (c == 34) ≡ b → (c == 10) ≡ d → (c == 9) ≡ e → (c == 13) ≡ f → nat_lt c 32 ≡ g → (c == 127) ≡ h
-        → P c (cond (a || b) (92 ∷ c ∷ []) (cond d (92 ∷ 110 ∷ []) (cond e (92 ∷ 116 ∷ []) (cond f (92 ∷ 114 ∷ []) (cond (g || h) (by_digits c) (c ∷ []))))))
-    by true b d e f g h ea eb ed ee ef eg eh = let is : 92 ≡ c = grind (arith, nat_tests) in subst (λ x. P x (92 ∷ x ∷ [])) is slash
-    by false true d e f g h ea eb ed ee ef eg eh = let is : 34 ≡ c = grind (arith, nat_tests) in subst (λ x. P x (92 ∷ x ∷ [])) is quote
+        → P c (cond (a || b) (sign nested c) (cond d (92 ∷ 110 ∷ []) (cond e (92 ∷ 116 ∷ []) (cond f (92 ∷ 114 ∷ []) (cond (g || h) (by_digits c) (c ∷ []))))))
+    by true b d e f g h ea eb ed ee ef eg eh = let is : 92 ≡ c = grind (arith, nat_tests) in subst (λ x. P x (sign nested x)) is (signed nested 92 slash (control 92 (omega arith)))
+    by false true d e f g h ea eb ed ee ef eg eh = let is : 34 ≡ c = grind (arith, nat_tests) in subst (λ x. P x (sign nested x)) is (signed nested 34 quote (control 34 (omega arith)))
     by false false true e f g h ea eb ed ee ef eg eh = let is : 10 ≡ c = grind (arith, nat_tests) in subst (λ x. P x (92 ∷ 110 ∷ [])) is feed
     by false false false true f g h ea eb ed ee ef eg eh = let is : 9 ≡ c = grind (arith, nat_tests) in subst (λ x. P x (92 ∷ 116 ∷ [])) is tab
     by false false false false true g h ea eb ed ee ef eg eh = let is : 13 ≡ c = grind (arith, nat_tests) in subst (λ x. P x (92 ∷ 114 ∷ [])) is return
@@ -250,9 +250,9 @@ hex_body c lt =
       inline = inline;
     }
 
-glyph_body : (c : ℕ) → scalar c ≡ true → Body (encodes (glyph c))
+glyph_body : (nested : Bool) (c : ℕ) → scalar c ≡ true → Body (encodes (glyph nested c))
 unfolding encode
-glyph_body c s = glyph_cases (λ (c : ℕ) (g : List ℕ). scalar c ≡ true → Body (encodes g))
+glyph_body nested c s = glyph_cases nested (λ (c : ℕ) (g : List ℕ). scalar c ≡ true → Body (encodes g))
     (λ s. record { ends_is = λ rest. two_later (ends rest); inline = refl })
     (λ s. record { ends_is = λ rest. two_later (ends rest); inline = refl })
     (λ s. record { ends_is = λ rest. two_later (ends rest); inline = refl })
@@ -262,19 +262,19 @@ glyph_body c s = glyph_cases (λ (c : ℕ) (g : List ℕ). scalar c ≡ true →
     (λ c p s. subst Body (sym (append-nil (encode c))) (plain_body (encode c) (plain_bytes c s p)))
     c s
 
-body : (s : List ℕ) → all_scalars s ≡ true → Body (encodes (glyphs s))
-body [] e = record { ends_is = λ rest. sym (plus_none (ends rest)); inline = refl }
-body (c ∷ s) e =
+body : (nested : Bool) (s : List ℕ) → all_scalars s ≡ true → Body (encodes (glyphs_by nested s))
+body nested [] e = record { ends_is = λ rest. sym (plus_none (ends rest)); inline = refl }
+body nested (c ∷ s) e =
     let two = and_both (scalar c) (all_scalars s) e in
-    let first = glyph_body c two.0 in
-    let rest = body s two.1 in
-    let x = encodes (glyph c) in
-    let y = encodes (glyphs s) in
+    let first = glyph_body nested c two.0 in
+    let rest = body nested s two.1 in
+    let x = encodes (glyph nested c) in
+    let y = encodes (glyphs_by nested s) in
     let joined : Body (x ++ y) = record {
       ends_is = λ more. ap ends (append_assoc x y more) ∙ first.ends_is (y ++ more) ∙ ap (plus (length x)) (rest.ends_is more) ∙ plus_plus (length x) (length y) (ends more) ∙ ap (λ n. plus n (ends more)) (sym (length-append x y));
       inline = list_all-append is_inline x y ∙ rw (first.inline, rest.inline) refl;
     } in
-    subst Body (sym (encodes-append (glyph c) (glyphs s))) joined
+    subst Body (sym (encodes-append (glyph nested c) (glyphs_by nested s))) joined
 
 -- ---- the string is not tripled
 
@@ -284,33 +284,36 @@ plain_first bs rest b m is e =
     let two = and_both (is_plain b) (list_all is_plain m) all in
     ap (λ xs. is_tripled 34 (xs ++ rest)) is ∙ rw ((plain_parts b two.0).0) refl
 
-glyph_first : (c : ℕ) → scalar c ≡ true → (rest : List ℕ) → is_tripled 34 (encodes (glyph c) ++ rest) ≡ false
+glyph_first : (nested : Bool) (c : ℕ) → scalar c ≡ true → (rest : List ℕ) → is_tripled 34 (encodes (glyph nested c) ++ rest) ≡ false
 unfolding encode
-glyph_first c s rest = glyph_cases (λ (c : ℕ) (g : List ℕ). scalar c ≡ true → is_tripled 34 (encodes g ++ rest) ≡ false)
+glyph_first nested c s rest = glyph_cases nested (λ (c : ℕ) (g : List ℕ). scalar c ≡ true → is_tripled 34 (encodes g ++ rest) ≡ false)
     (λ s. refl) (λ s. refl) (λ s. refl) (λ s. refl) (λ s. refl)
     (λ c lt s. refl)
     (λ c p s. ap (λ xs. is_tripled 34 (xs ++ rest)) (append-nil (encode c)) ∙ (let w = coded c s in plain_first (encode c) rest w.b w.m w.are (plain_bytes c s p)))
     c s
 
-not_tripled : (s after : List ℕ) → all_scalars s ≡ true → begins is_quote after ≡ false → is_tripled 34 (encodes (glyphs s) ++ 34 ∷ after) ≡ false
-not_tripled [] [] e q = refl
-not_tripled [] (d ∷ after) e q = let two = or_both (d == 34) (d == 39) q in let n : (34 == d) ≡ false = (let m = two.0 in grind (arith, nat_tests)) in rw n refl
-not_tripled (c ∷ s) after e q =
+not_tripled : (nested : Bool) (s after : List ℕ) → all_scalars s ≡ true → begins is_quote after ≡ false → is_tripled 34 (encodes (glyphs_by nested s) ++ 34 ∷ after) ≡ false
+not_tripled nested [] [] e q = refl
+not_tripled nested [] (d ∷ after) e q = let two = or_both (d == 34) (d == 39) q in let n : (34 == d) ≡ false = (let m = two.0 in grind (arith, nat_tests)) in rw n refl
+not_tripled nested (c ∷ s) after e q =
     let two = and_both (scalar c) (all_scalars s) e in
-    ap (is_tripled 34) (ap (λ xs. xs ++ 34 ∷ after) (encodes-append (glyph c) (glyphs s)) ∙ append_assoc (encodes (glyph c)) (encodes (glyphs s)) (34 ∷ after)) ∙ glyph_first c two.0 (encodes (glyphs s) ++ 34 ∷ after)
+    ap (is_tripled 34) (ap (λ xs. xs ++ 34 ∷ after) (encodes-append (glyph nested c) (glyphs_by nested s)) ∙ append_assoc (encodes (glyph nested c)) (encodes (glyphs_by nested s)) (34 ∷ after)) ∙ glyph_first nested c two.0 (encodes (glyphs_by nested s) ++ 34 ∷ after)
 
 -- ---- what the string holds
 
-glyph_scalars : (c : ℕ) → scalar c ≡ true → all_scalars (glyph c) ≡ true
-glyph_scalars c s = glyph_cases (λ (c : ℕ) (g : List ℕ). scalar c ≡ true → all_scalars g ≡ true) (λ s. refl) (λ s. refl) (λ s. refl) (λ s. refl) (λ s. refl) (λ c lt s. rw ((high_digit c lt).sound, (low_digit c).sound) refl) (λ c p s. rw s refl) c s
+glyph_scalars : (nested : Bool) (c : ℕ) → scalar c ≡ true → all_scalars (glyph nested c) ≡ true
+glyph_scalars nested c s = glyph_cases nested (λ (c : ℕ) (g : List ℕ). scalar c ≡ true → all_scalars g ≡ true) (λ s. refl) (λ s. refl) (λ s. refl) (λ s. refl) (λ s. refl) (λ c lt s. rw ((high_digit c lt).sound, (low_digit c).sound) refl) (λ c p s. rw s refl) c s
 
 scalars_append : (xs ys : List ℕ) → all_scalars xs ≡ true → all_scalars ys ≡ true → all_scalars (xs ++ ys) ≡ true
 scalars_append [] ys e f = f
 scalars_append (x ∷ xs) ys e f = let two = and_both (scalar x) (all_scalars xs) e in rw two.0 (scalars_append xs ys two.1 f)
 
-glyphs_scalars : (s : List ℕ) → all_scalars s ≡ true → all_scalars (glyphs s) ≡ true
-glyphs_scalars [] e = refl
-glyphs_scalars (c ∷ s) e = let two = and_both (scalar c) (all_scalars s) e in scalars_append (glyph c) (glyphs s) (glyph_scalars c two.0) (glyphs_scalars s two.1)
+glyphs_scalars : (nested : Bool) (s : List ℕ) → all_scalars s ≡ true → all_scalars (glyphs_by nested s) ≡ true
+glyphs_scalars nested [] e = refl
+glyphs_scalars nested (c ∷ s) e = let two = and_both (scalar c) (all_scalars s) e in scalars_append (glyph nested c) (glyphs_by nested s) (glyph_scalars nested c two.0) (glyphs_scalars nested s two.1)
+
+pub glyphs_are_characters : GlyphsAreCharacters
+glyphs_are_characters s e = glyphs_scalars false s e
 
 sound_char : (c : ℕ) → scalar c ≡ true → (c == not_utf8) ≡ false
 sound_char c s = same_by (c == not_utf8) refl
@@ -339,8 +342,8 @@ hex_stands c lt = λ s rest r e.
     let text = 120 ∷ hex_digit (c / 16) ∷ hex_digit (c % 16) ∷ rest in
     ap (λ o. escaped o (lines_on 0 (content_behind (escape_len o) text))) (hex_escape_is c lt s rest) ∙ rw e refl
 
-glyph_stands : (c : ℕ) → Stands c (glyph c)
-glyph_stands c = glyph_cases Stands
+glyph_stands : (nested : Bool) (c : ℕ) → Stands c (glyph nested c)
+glyph_stands nested c = glyph_cases nested Stands
     (λ s rest r e. rw e refl)
     (λ s rest r e. rw e refl)
     (λ s rest r e. rw e refl)
@@ -350,13 +353,16 @@ glyph_stands c = glyph_cases Stands
     (λ c p s rest r e. content_plain c rest r p s e)
     c
 
-content_is : (s : List ℕ) → all_scalars s ≡ true → content_behind 0 (glyphs s) ≡ Ok s
-content_is [] e = refl
-content_is (c ∷ s) e = let two = and_both (scalar c) (all_scalars s) e in glyph_stands c two.0 (glyphs s) s (content_is s two.1)
+content_is : (nested : Bool) (s : List ℕ) → all_scalars s ≡ true → content_behind 0 (glyphs_by nested s) ≡ Ok s
+content_is nested [] e = refl
+content_is nested (c ∷ s) e = let two = and_both (scalar c) (all_scalars s) e in glyph_stands nested c two.0 (glyphs_by nested s) s (content_is nested s two.1)
 
 -- ---- the token
 
 module _ (s : List ℕ) (good : all_scalars s ≡ true) where
+  abbrev nested : Bool
+  nested = false
+
   abbrev inner : List ℕ
   inner = encodes (glyphs s)
 
@@ -365,14 +371,14 @@ module _ (s : List ℕ) (good : all_scalars s ≡ true) where
   no_quote (d ∷ more) f = not_true _ f
 
   closes : (after : List ℕ) → ends (inner ++ 34 ∷ after) ≡ Some (length inner + 1)
-  closes after = (body s good).ends_is (34 ∷ after)
+  closes after = (body nested s good).ends_is (34 ∷ after)
 
   string_is : (after : List ℕ) → Follows (t.Str s) after → string_len 34 ((inner ++ 34 ∷ []) ++ after) ≡ Some (suc (length (inner ++ 34 ∷ [])))
   unfolding string_len
   string_is after f =
       let n : 1 + (length inner + 1) ≡ suc (length (inner ++ 34 ∷ [])) = omega (arith, length-append inner (34 ∷ [])) in
       ap (λ xs. plus (quotes_len 34 xs) (closing 34 (is_tripled 34 xs) false (drop (quotes_len 34 xs - 1) xs))) (append_assoc inner (34 ∷ []) after)
-      ∙ ap (λ v. plus (length (quotes 34 v)) (closing 34 v false (drop (length (quotes 34 v) - 1) (inner ++ 34 ∷ after)))) (not_tripled s after good (no_quote after f))
+      ∙ ap (λ v. plus (length (quotes 34 v)) (closing 34 v false (drop (length (quotes 34 v) - 1) (inner ++ 34 ∷ after)))) (not_tripled nested s after good (no_quote after f))
       ∙ ap (plus 1) (closes after)
       ∙ ap (λ k. Some k) n
 
@@ -384,11 +390,11 @@ module _ (s : List ℕ) (good : all_scalars s ≡ true) where
   unfolding string_content decoded
   holds =
       let n : length (inner ++ 34 ∷ []) + 1 - (1 + 1) ≡ length inner = omega (arith, length-append inner (34 ∷ [])) in
-      ap (λ v. content_behind 0 (decoded_behind 0 (take (length (inner ++ 34 ∷ []) + 1 - (length (quotes 34 v) + length (quotes 34 v))) (drop (length (quotes 34 v) - 1) (inner ++ 34 ∷ []))))) (not_tripled s [] good refl)
+      ap (λ v. content_behind 0 (decoded_behind 0 (take (length (inner ++ 34 ∷ []) + 1 - (length (quotes 34 v) + length (quotes 34 v))) (drop (length (quotes 34 v) - 1) (inner ++ 34 ∷ []))))) (not_tripled nested s [] good refl)
       ∙ ap (λ k. content_behind 0 (decoded_behind 0 (take k (inner ++ 34 ∷ [])))) n
       ∙ ap (λ xs. content_behind 0 (decoded_behind 0 xs)) (take-append_seam inner (34 ∷ []))
-      ∙ ap (content_behind 0) (decoded_all (glyphs s) (glyphs_scalars s good))
-      ∙ content_is s good
+      ∙ ap (content_behind 0) (decoded_all (glyphs s) (glyphs_scalars nested s good))
+      ∙ content_is nested s good
 
   not_nil : (xs : List ℕ) → is_nil (xs ++ 34 ∷ []) ≡ false
   not_nil [] = refl
@@ -406,7 +412,7 @@ module _ (s : List ℕ) (good : all_scalars s ≡ true) where
     text = refl;
     cut = string_cut;
     token = ap string_token holds;
-    inline = list_all-append is_inline inner (34 ∷ []) ∙ rw ((body s good).inline) refl;
+    inline = list_all-append is_inline inner (34 ∷ []) ∙ rw ((body nested s good).inline) refl;
     solid = refl;
     first = refl;
     fault = λ h before after f b. string_fine h before after;

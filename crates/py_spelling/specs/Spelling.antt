@@ -109,19 +109,33 @@ mark_text m.DoubleStarEqual = codes "**="
 abbrev pub hex_digit : ℕ → ℕ
 hex_digit n = if nat_lt n 10 then 48 + n else 87 + n
 
+-- an escape by two hexadecimal digits
+abbrev pub by_digits : ℕ → List ℕ
+by_digits c = 92 ∷ 120 ∷ hex_digit (c / 16) ∷ hex_digit (c % 16) ∷ []
+
+-- A backslash and a quote are escaped by a backslash before them, as files are written, or by digits, which add no quote and no second
+-- backslash. A reader takes both.
+abbrev pub sign : Bool → ℕ → List ℕ
+sign true c = by_digits c
+sign false c = 92 ∷ c ∷ []
+
 -- a character between double quotes (2.4.1): a backslash, a quote and what has no sign of its own is escaped
-abbrev pub glyph : ℕ → List ℕ
-glyph c =
-    if c == 92 || c == 34 then 92 ∷ c ∷ []
+abbrev pub glyph : Bool → ℕ → List ℕ
+glyph nested c =
+    if c == 92 || c == 34 then sign nested c
     else (if c == 10 then 92 ∷ 110 ∷ []
     else (if c == 9 then 92 ∷ 116 ∷ []
     else (if c == 13 then 92 ∷ 114 ∷ []
-    else (if nat_lt c 32 || c == 127 then 92 ∷ 120 ∷ hex_digit (c / 16) ∷ hex_digit (c % 16) ∷ []
+    else (if nat_lt c 32 || c == 127 then by_digits c
     else c ∷ []))))
 
+abbrev pub glyphs_by : Bool → List ℕ → List ℕ
+glyphs_by nested [] = []
+glyphs_by nested (c ∷ cs) = glyph nested c ++ glyphs_by nested cs
+
+-- the characters between the quotes
 abbrev pub glyphs : List ℕ → List ℕ
-glyphs [] = []
-glyphs (c ∷ cs) = glyph c ++ glyphs cs
+glyphs s = glyphs_by false s
 
 unfoldable pub quoted : List ℕ → List ℕ
 quoted s = 34 ∷ (encodes (glyphs s) ++ 34 ∷ [])
@@ -269,3 +283,7 @@ has_sound_tokens l = list_all is_sound l.tokens
 -- each token of a text is sound
 abbrev pub AllTokensAreSound : Type 0
 AllTokensAreSound = (text : List ℕ) → list_all has_sound_tokens (tokens_of text).lines ≡ true
+
+-- what is between the quotes of a string is characters of Unicode
+abbrev pub GlyphsAreCharacters : Type 0
+GlyphsAreCharacters = (s : List ℕ) → all_scalars s ≡ true → all_scalars (glyphs s) ≡ true

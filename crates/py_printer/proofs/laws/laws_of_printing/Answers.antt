@@ -1,3 +1,4 @@
+use Rattle.py_printer.proofs.Characters.{texts_are_characters}
 use Rattle.py_printer.proofs.LineLaw.{lines_read_back}
 use Rattle.py_printer.proofs.ReadBack.{styled_read_back}
 use Rattle.py_printer.proofs.laws.laws_of_printing.Goals as goal
@@ -8,3 +9,6 @@ returns-clause-back c =
 
 pub returns-clause-lines : goal.returns-clause-lines
 returns-clause-lines c = lines_read_back c.laws_of_spelling.ensures.read_back
+
+pub returns-clause-characters : goal.returns-clause-characters
+returns-clause-characters c = texts_are_characters c.laws_of_spelling.ensures.characters

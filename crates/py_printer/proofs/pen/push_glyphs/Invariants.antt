@@ -1,6 +1,0 @@
-use Rattle.std.proofs.Common.{◌≡◌, ◌++◌}
-use Rattle.py_spelling.specs.Spelling.{glyphs}
-use Rattle.py_printer.proofs.pen.push_glyphs.Given as goal
-
-abbrev pub invariant-loop-c : goal.invariant-loop-c
-invariant-loop-c l = l.to ≡ l.fn.to ++ glyphs l.yielded

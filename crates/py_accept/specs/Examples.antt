@@ -39,7 +39,7 @@ Taken =
     ≡ Ok record {
       tree = sample (codes "a");
       funcs = record { name = codes "m"; class = Some 0; node = record { 0 = 0 }; locals = codes "a" ∷ [] }
-          ∷ record { name = codes "f"; class = None; node = record { 0 = 0 }; locals = codes "a" ∷ codes "b" ∷ codes "b" ∷ [] } ∷ [];
+          ∷ record { name = codes "f"; class = None; node = record { 0 = 0 }; locals = codes "a" ∷ codes "b" ∷ [] } ∷ [];
       classes = record { name = codes "A"; base = Built KeyError; methods = record { 0 = 0 } ∷ []; constants = (codes "k", one 2) ∷ [] } ∷ [];
     }
 

@@ -1,8 +1,9 @@
 // What is known of functions and classes, from the module's tables.
-ghost use Rattle.std.specs.Prelude.{◌≡◌, map, IfOk};
-ghost use Rattle.py_accept.specs.Accepted.{func_info, class_info};
+ghost use Rattle.std.specs.Prelude.{◌≡◌, [], map, IfOk};
+ghost use Rattle.py_accept.specs.Accepted.{first_of_each, func_info, class_info};
 
 use py_copies::copy_expr;
+use py_name_sets::NameSet;
 use py_syntax::Expr;
 use py_tables::{ClassRow, FunctionRow};
 use pyn_base::{ClassId, FuncId, Memory, Name, NodeId};
@@ -16,7 +17,7 @@ pub struct FuncInfo {
     /// The number of the class in which it is written.
     pub class: Option<u32>,
     pub node: NodeId,
-    /// Every name that it binds, its parameters first. A name that is bound more than once is listed as often.
+    /// Every name that it binds, once each: its parameters, then the others in the order in which they are bound first.
     pub locals: Items<Name>,
 }
 
@@ -32,12 +33,16 @@ pub struct ClassInfo {
     pub constants: Items<(Name, Expr)>,
 }
 
+/// Each of the names once, in the order in which they come first.
 fn names_of(alloc: Global, names: &[&Name]) -> Result<Items<Name>, Memory>
-    ensures { IfOk result (λ all. all ≡ map (λ name. name.now) names.now) }
+    ensures { IfOk result (λ all. all ≡ first_of_each [] (map (λ name. name.now) names.now)) }
 {
+    let mut seen = NameSet::new(alloc);
     let mut all = Items::new(alloc);
     for name in names {
-        all.push((*name).to_owned(alloc)?)?;
+        if !seen.insert(*name)? {
+            all.push(Name::to_owned(*name, alloc)?)?;
+        }
     }
     Ok(all)
 }

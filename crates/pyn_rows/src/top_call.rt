@@ -1,5 +1,5 @@
 // The program over desks in memory. The suites and reports are those that the formats say.
-use pyn_base::{Break, Bytes, CallKind, Desk, MemoryDesk, Text};
+use pyn_base::{Break, Bytes, CallKind, Called, Desk, MemoryDesk, Text};
 use pynguin_job::{Status, pynguin};
 use std::alloc::Global;
 use std::test::Fail;
@@ -178,6 +178,14 @@ fn a_module_past_its_limit_is_refused(rt: HostRuntime) -> Result<(), Fail> {
     Ok(())
 }
 
+// Whether the last of the calls is a `say` that failed.
+fn ends_with_a_failed_say(calls: &[Called]) -> bool {
+    match calls.last() {
+        None => false,
+        Some(last) => last.failed && last.kind == CallKind::Say,
+    }
+}
+
 #[test]
 fn a_say_that_fails_leaves_the_status(rt: HostRuntime) -> Result<(), Fail> {
     let alloc = rt.alloc();
@@ -197,9 +205,7 @@ fn a_say_that_fails_leaves_the_status(rt: HostRuntime) -> Result<(), Fail> {
         let words = words(alloc, line)?;
         assert_eq!(rt; pynguin(alloc, words.as_slice(), &mut desk), status);
         assert!(rt; has_said(&desk, ""));
-        let calls = desk.calls();
-        let last = &calls[calls.len() - 1];
-        assert!(rt; last.failed && last.kind == CallKind::Say);
+        assert!(rt; ends_with_a_failed_say(desk.calls()));
     }
     Ok(())
 }

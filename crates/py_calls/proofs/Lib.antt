@@ -1,1 +1,3 @@
 pub mod Paying
+pub mod Asking
+pub mod SuperFound

@@ -3,6 +3,8 @@
 #![tactic(auto)]
 
 #[cfg(test)]
+mod acts;
+#[cfg(test)]
 mod builtins;
 #[cfg(test)]
 mod methods;
@@ -11,4 +13,4 @@ mod objects;
 #[cfg(test)]
 mod operators;
 #[cfg(test)]
-mod rows;
+mod values;

@@ -1,6 +1,6 @@
-// What rows are written with: values, answers, and whether the one is the other.
+// Values and answers as rows write them, and whether an answer is what its row says.
 use py_objects::{Objects, Op, PyStr, PyTuple, Value, View};
-use pyn_base::{BuiltClass, Construct, Fuel, Memory, PyInt};
+use pyn_base::{BuiltClass, ClassId, Construct, Memory, PyInt};
 use std::alloc::Global;
 use std::test::Fail;
 
@@ -18,12 +18,17 @@ pub(crate) enum Plain {
     List(&'static [i128]),
     /// A list of the texts between the bars.
     Texts(&'static str),
+    Class(BuiltClass),
+    /// What the row of this number in the same table answered.
+    At(usize),
 }
 
 /// An answer as a row writes it.
 #[derive(Clone, Copy)]
 pub(crate) enum Answer {
     Is(Plain),
+    /// Some value.
+    Made,
     Raises(BuiltClass),
     Leaves(Construct),
     OutOfSteps,
@@ -61,8 +66,16 @@ fn texts(alloc: Global, joined: &str) -> Result<Vec<Value>, Memory> {
     Ok(items)
 }
 
-/// The value that a row writes; a list is a new object.
-pub(crate) fn value(plain: Plain, objects: &mut Objects) -> Result<Value, Fail> {
+/// What an earlier row answered, for one more owner.
+fn answered(made: &[Value], row: usize) -> Result<Value, Fail> {
+    match made.get(row) {
+        Some(value) => Ok(value.share()?),
+        None => Err("no such row")?,
+    }
+}
+
+/// The value that a row writes, after what the rows before it answered; a list is a new object.
+pub(crate) fn value(plain: Plain, made: &[Value], objects: &mut Objects) -> Result<Value, Fail> {
     let alloc = objects.alloc();
     Ok(match plain {
         Plain::Nothing => Value::None,
@@ -73,13 +86,19 @@ pub(crate) fn value(plain: Plain, objects: &mut Objects) -> Result<Value, Fail> 
         Plain::Tuple(numbers) => Value::Tuple(tuple(alloc, integers(alloc, numbers)?)?),
         Plain::List(numbers) => Value::Ref(objects.new_list(integers(alloc, numbers)?)?),
         Plain::Texts(joined) => Value::Ref(objects.new_list(texts(alloc, joined)?)?),
+        Plain::Class(class) => Value::Class(ClassId::Built(class)),
+        Plain::At(row) => answered(made, row)?,
     })
 }
 
-pub(crate) fn values(plains: &[Plain], objects: &mut Objects) -> Result<Vec<Value>, Fail> {
+pub(crate) fn values(
+    plains: &[Plain],
+    made: &[Value],
+    objects: &mut Objects,
+) -> Result<Vec<Value>, Fail> {
     let mut values = Vec::new(objects.alloc());
     for plain in plains {
-        values.push(value(*plain, objects)?)?;
+        values.push(value(*plain, made, objects)?)?;
     }
     Ok(values)
 }
@@ -128,16 +147,12 @@ pub(crate) fn is(value: &Value, plain: Plain, objects: &Objects) -> bool {
 pub(crate) fn agrees(answer: &Op<Value>, expected: Answer, objects: &Objects) -> bool {
     match (answer, expected) {
         (Op::Done(value), Answer::Is(plain)) => is(value, plain, objects),
+        (Op::Done(_), Answer::Made) => true,
         (Op::Raises(a), Answer::Raises(b)) => *a == b,
         (Op::Leaves(a), Answer::Leaves(b)) => *a == b,
         (Op::OutOfSteps, Answer::OutOfSteps) => true,
         _ => false,
     }
-}
-
-/// Whether so many steps were taken of a hundred.
-pub(crate) fn costs(fuel: &Fuel, cost: u32) -> bool {
-    fuel.left() as u64 + cost as u64 == 100
 }
 
 pub(crate) fn done<T: Drop>(answer: Op<T>) -> Result<T, &'static str> {
@@ -147,19 +162,5 @@ pub(crate) fn done<T: Drop>(answer: Op<T>) -> Result<T, &'static str> {
         Op::Leaves(_) => Err("leaves"),
         Op::OutOfSteps => Err("out of steps"),
         Op::Memory => Err("no memory"),
-    }
-}
-
-pub(crate) fn raises<T: Drop>(answer: Op<T>, class: BuiltClass) -> bool {
-    match answer {
-        Op::Raises(raised) => raised == class,
-        _ => false,
-    }
-}
-
-pub(crate) fn leaves<T: Drop>(answer: Op<T>, construct: Construct) -> bool {
-    match answer {
-        Op::Leaves(left) => left == construct,
-        _ => false,
     }
 }

@@ -1,0 +1,13 @@
+use Rattle.py_meaning.specs.Builtins.{call_builtin}
+use Rattle.py_plain.specs.Runs.{performs, gives}
+use Rattle.py_calls.proofs.Paying.{paid, then_on}
+use Rattle.py_calls.proofs.builtins.call_other.Goals as goal
+
+pub returns-clause-meant : goal.returns-clause-meant
+returns-clause-meant g c =
+    let change = call_builtin c.args.id c.args.plain.now in
+    then_on (performs change) gives c.args.s.now (c.in_ok-end.end, c.settle_change.new.s) (c.given.result, c.settle_change.new.s)
+    (c.in_ok-end.ensures.meant change c.args.s.now.objects c.args.s.now.left
+    (paid c.call_builtin-answer.result change c.args.s.now.objects c.call_builtin-answer.new.objects c.new-fuel.result c.args.s.now.left c.left-s.result c.call_builtin-answer.new.fuel
+    c.new-fuel.ensures c.left-s.ensures c.call_builtin-answer.ensures.meant))
+    c.given.ensures

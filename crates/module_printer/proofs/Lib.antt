@@ -1,0 +1,11 @@
+mod AnnotationLevels
+mod Commas
+mod ExampleRows
+mod HeaderForms
+mod Pages
+mod Parts
+mod PenLines
+mod RowsBack
+mod SmallLevels
+mod StatementRows
+mod Writes

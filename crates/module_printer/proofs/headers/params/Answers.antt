@@ -1,0 +1,16 @@
+use Rattle.std.proofs.Common.{refl}
+use Rattle.py_layout.specs.Headers.{param_tokens}
+use Rattle.py_annotation_layout.specs.Annotations.{annotation_tokens}
+use Rattle.module_printer.proofs.Commas.{one_part, all_parts}
+use Rattle.module_printer.proofs.headers.params.Goals as goal
+
+pub loop-x-init : goal.loop-x-init
+loop-x-init c = refl
+
+pub loop-x-preserved : goal.loop-x-preserved
+loop-x-preserved c =
+    one_part (param_tokens annotation_tokens) c.args.all.now c.loop-x.x-index c.x-item.result c.loop-x.first _ c.loop-x.pen c.comma.new.pen c.param.new.pen c.loop-x-test.true c.x-item.is c.loop-x.invariant
+    c.in_ok-comma.ensures c.in_ok-param.ensures
+
+pub returns : goal.returns
+returns c = all_parts (param_tokens annotation_tokens) c.args.all.now c.loop-x.x-index c.loop-x.first _ c.loop-x.pen c.loop-x-test.false c.loop-x.invariant

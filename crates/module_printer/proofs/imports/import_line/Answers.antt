@@ -1,0 +1,5 @@
+use Rattle.module_printer.proofs.PenLines.{line_ok}
+use Rattle.module_printer.proofs.imports.import_line.Goals as goal
+
+pub returns : goal.returns
+returns c = line_ok c.line.result c.args.page.now c.line.new.self c.args.column c.new_pen-pen.result c.import.new.pen _ c.new_pen-pen.ensures c.in_ok-import.ensures c.line.ensures

@@ -21,3 +21,11 @@ Starts W stack kind stack' next = (watcher : Watcher W) (program : Program) (s :
 -- What was to be done under the stack is what is left to do, whoever watches.
 abbrev pub Continues : {W : Type 0} → (Watcher W → Program → Run W Finding) → List Control → State World W → List Control → Doing → State World W → Type 0
 Continues run stack s stack' next s' = (watcher : Watcher _) (program : Program) → Goes watcher program stack (run watcher program) s stack' next s'
+
+-- The same from any state, which stays as it is.
+abbrev pub Anywhere : (W : Type 0) → (Watcher W → Program → Run W Finding) → List Control → List Control → Doing → Type 0
+Anywhere W run stack stack' next = (s : State World W) → Continues run stack s stack' next s
+
+-- What was to be done is what is left to do, whoever watches a run of this program.
+abbrev pub GoesOn : {W : Type 0} → Program → (Watcher W → Run W Finding) → List Control → State World W → List Control → Doing → State World W → Type 0
+GoesOn program run stack s stack' next s' = (watcher : Watcher _) → Goes watcher program stack (run watcher) s stack' next s'

@@ -35,6 +35,20 @@ pub fn start_index<'s, W>(
     Ok(Doing::Eval(of.get()))
 }
 
+/// `object[low:high]`: the object comes first.
+pub fn start_slice<'s, W>(
+    stack: &mut Vec<Control<'s>>,
+    of: &'s Boxed<Expr>,
+    low: &'s Option<Boxed<Expr>>,
+    high: &'s Option<Boxed<Expr>>,
+) -> Result<Doing<'s>, Memory>
+    ensures { IfOk result (λ next. Starts W stack.old.items (ExprKind-F.Slice of.now low.now high.now) stack.new.items next) }
+{
+    laws_of_frames::<W>();
+    stack.push(Control::Then(Pending::Operand(Operand::Bounds(low, high))))?;
+    Ok(Doing::Eval(of.get()))
+}
+
 /// A sign: its operand comes first.
 pub fn start_sign<'s, W>(
     stack: &mut Vec<Control<'s>>,

@@ -24,7 +24,7 @@ use sqlite_items::Items;
 fn next_named<'s, P: Probe>(
     s: &mut State<Objects, P>,
     stack: &mut Vec<Control<'s>>,
-    tables: &'s Tables<'s>,
+    tables: &'s Tables<'_>,
     f: Callee,
     plain: Sequence<Value>,
     done: Sequence<(Name, Value)>,
@@ -51,7 +51,7 @@ fn next_named<'s, P: Probe>(
 fn next_plain<'s, P: Probe>(
     s: &mut State<Objects, P>,
     stack: &mut Vec<Control<'s>>,
-    tables: &'s Tables<'s>,
+    tables: &'s Tables<'_>,
     f: Callee,
     done: Sequence<Value>,
     plain: Tail<'s, Expr>,
@@ -79,7 +79,7 @@ fn next_plain<'s, P: Probe>(
 pub(crate) fn start_arguments<'s, P: Probe>(
     s: &mut State<Objects, P>,
     stack: &mut Vec<Control<'s>>,
-    tables: &'s Tables<'s>,
+    tables: &'s Tables<'_>,
     f: Callee,
     args: &'s Args,
 ) -> Result<Doing<'s>, Memory>
@@ -103,7 +103,7 @@ pub(crate) fn start_arguments<'s, P: Probe>(
 pub fn resume_argument<'s, P: Probe>(
     s: &mut State<Objects, P>,
     stack: &mut Vec<Control<'s>>,
-    tables: &'s Tables<'s>,
+    tables: &'s Tables<'_>,
     pending: Argument<'s>,
     x: Finding,
 ) -> Result<Doing<'s>, Memory>

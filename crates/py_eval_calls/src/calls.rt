@@ -22,7 +22,7 @@ use pyn_base::{BuiltClass, ClassId, Memory, Name};
 pub fn instantiate<'s, P: Probe>(
     s: &mut State<Objects, P>,
     stack: &mut Vec<Control<'s>>,
-    tables: &'s Tables<'s>,
+    tables: &'s Tables<'_>,
     class: ClassId,
     plain: Sequence<Value>,
     named: &[(Name, Value)],
@@ -50,7 +50,7 @@ pub fn instantiate<'s, P: Probe>(
 fn call_class<'s, P: Probe>(
     s: &mut State<Objects, P>,
     stack: &mut Vec<Control<'s>>,
-    tables: &'s Tables<'s>,
+    tables: &'s Tables<'_>,
     class: ClassId,
     plain: Sequence<Value>,
     named: &[(Name, Value)],
@@ -81,7 +81,7 @@ fn call_class<'s, P: Probe>(
 fn call_value<'s, P: Probe>(
     s: &mut State<Objects, P>,
     stack: &mut Vec<Control<'s>>,
-    tables: &'s Tables<'s>,
+    tables: &'s Tables<'_>,
     f: &Value,
     plain: Sequence<Value>,
     named: &[(Name, Value)],
@@ -109,7 +109,7 @@ fn call_value<'s, P: Probe>(
 pub(crate) fn call<'s, P: Probe>(
     s: &mut State<Objects, P>,
     stack: &mut Vec<Control<'s>>,
-    tables: &'s Tables<'s>,
+    tables: &'s Tables<'_>,
     f: Callee,
     plain: Sequence<Value>,
     named: &[(Name, Value)],

@@ -35,7 +35,7 @@ fn enter_function<'s, P: Probe>(
     s: &mut State<Objects, P>,
     stack: &mut Vec<Control<'s>>,
     f: FuncId,
-    row: &'s FunctionRow<'s>,
+    row: &'s FunctionRow<'_>,
     variables: Sequence<(Name, Value)>,
 ) -> Result<Doing<'s>, Memory>
     requires { s.old.depth < call_limit }
@@ -57,7 +57,7 @@ fn enter_function<'s, P: Probe>(
 pub(crate) fn call_function<'s, P: Probe>(
     s: &mut State<Objects, P>,
     stack: &mut Vec<Control<'s>>,
-    tables: &'s Tables<'s>,
+    tables: &'s Tables<'_>,
     f: FuncId,
     plain: &[Value],
     named: &[(Name, Value)],
@@ -78,7 +78,7 @@ pub(crate) fn call_function<'s, P: Probe>(
 pub(crate) fn call_bound<'s, P: Probe>(
     s: &mut State<Objects, P>,
     stack: &mut Vec<Control<'s>>,
-    tables: &'s Tables<'s>,
+    tables: &'s Tables<'_>,
     id: ObjId,
     f: FuncId,
     plain: Sequence<Value>,
@@ -97,7 +97,7 @@ pub(crate) fn call_bound<'s, P: Probe>(
 pub(crate) fn initialize<'s, P: Probe>(
     s: &mut State<Objects, P>,
     stack: &mut Vec<Control<'s>>,
-    tables: &'s Tables<'s>,
+    tables: &'s Tables<'_>,
     id: ObjId,
     f: FuncId,
     plain: Sequence<Value>,

@@ -42,7 +42,7 @@ pub fn start_method<'s, W>(
 pub fn start_super<'s, P: Probe>(
     s: &mut State<Objects, P>,
     stack: &mut Vec<Control<'s>>,
-    tables: &'s Tables<'s>,
+    tables: &'s Tables<'_>,
     name: &Name,
     args: &'s Args,
 ) -> Result<Doing<'s>, Memory>
@@ -72,7 +72,7 @@ fn builtin_called<P: Probe>(s: &State<Objects, P>, tables: &Tables, f: &Expr) ->
 pub fn start_call<'s, P: Probe>(
     s: &mut State<Objects, P>,
     stack: &mut Vec<Control<'s>>,
-    tables: &'s Tables<'s>,
+    tables: &'s Tables<'_>,
     f: &'s Boxed<Expr>,
     args: &'s Args,
 ) -> Result<Doing<'s>, Memory>

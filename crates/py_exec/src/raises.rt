@@ -24,7 +24,7 @@ use pyn_base::{BuiltClass, ClassId, Memory, ObjId};
 fn raise_class<'s, P: Probe>(
     s: &mut State<Objects, P>,
     stack: &mut Vec<Control<'s>>,
-    tables: &'s Tables<'s>,
+    tables: &'s Tables<'_>,
     class: ClassId,
 ) -> Result<Doing<'s>, Memory>
     ensures meant { let watcher = watched_by P.after_began P.after_judged in IfOk result (λ next. Goes watcher tables.now stack.old.items (raises_class watcher tables.now (value_of watcher tables.now) (means watcher tables.now) class) s.old stack.new.items next s.new) }
@@ -69,7 +69,7 @@ fn raise_instance<W: Drop>(
 pub(crate) fn raise_value<'s, P: Probe>(
     s: &mut State<Objects, P>,
     stack: &mut Vec<Control<'s>>,
-    tables: &'s Tables<'s>,
+    tables: &'s Tables<'_>,
     x: &Value,
 ) -> Result<Doing<'s>, Memory>
     ensures meant { let watcher = watched_by P.after_began P.after_judged in IfOk result (λ next. Goes watcher tables.now stack.old.items (raises_value watcher tables.now (value_of watcher tables.now) (means watcher tables.now) (out-Value x.now)) s.old stack.new.items next s.new) }

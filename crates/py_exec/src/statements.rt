@@ -158,7 +158,7 @@ fn start_try<'s, W>(
 fn exec_kind<'s, P: Probe>(
     s: &mut State<Objects, P>,
     stack: &mut Vec<Control<'s>>,
-    tables: &'s Tables<'s>,
+    tables: &'s Tables<'_>,
     node: NodeId,
     kind: &'s StmtKind,
 ) -> Result<Doing<'s>, Memory>
@@ -220,7 +220,7 @@ fn exec_kind<'s, P: Probe>(
 pub fn exec<'s, P: Probe>(
     s: &mut State<Objects, P>,
     stack: &mut Vec<Control<'s>>,
-    tables: &'s Tables<'s>,
+    tables: &'s Tables<'_>,
     stmt: &'s Stmt,
 ) -> Result<Doing<'s>, Memory>
     ensures meant { let watcher = watched_by P.after_began P.after_judged in IfOk result (λ next. Goes watcher tables.now stack.old.items (means watcher tables.now stmt.now) s.old stack.new.items next s.new) }

@@ -20,7 +20,7 @@ use pyn_base::Memory;
 pub fn resume_step<'s, P: Probe>(
     s: &mut State<Objects, P>,
     stack: &mut Vec<Control<'s>>,
-    tables: &'s Tables<'s>,
+    tables: &'s Tables<'_>,
     pending: Step<'s>,
     x: Finding,
 ) -> Result<Doing<'s>, Memory>

@@ -19,7 +19,7 @@ use pyn_base::Memory;
 pub(crate) fn resume<'s, P: Probe>(
     s: &mut State<Objects, P>,
     stack: &mut Vec<Control<'s>>,
-    tables: &'s Tables<'s>,
+    tables: &'s Tables<'_>,
     entry: Control<'s>,
     end: Outcome<Finding>,
 ) -> Result<Doing<'s>, Memory>

@@ -37,7 +37,7 @@ fn text_value(alloc: Global, text: &Text) -> Result<Value, Memory>
 fn eval_kind<'s, P: Probe>(
     s: &mut State<Objects, P>,
     stack: &mut Vec<Control<'s>>,
-    tables: &'s Tables<'s>,
+    tables: &'s Tables<'_>,
     kind: &'s ExprKind,
 ) -> Result<Doing<'s>, Memory>
     ensures meant { let watcher = watched_by P.after_began P.after_judged in IfOk result (λ next. Goes watcher tables.now stack.old.items (value_by watcher tables.now (value_of watcher tables.now) (means watcher tables.now) (out-ExprKind kind.now)) s.old stack.new.items next s.new) }
@@ -129,7 +129,7 @@ fn eval_kind<'s, P: Probe>(
 pub(crate) fn eval<'s, P: Probe>(
     s: &mut State<Objects, P>,
     stack: &mut Vec<Control<'s>>,
-    tables: &'s Tables<'s>,
+    tables: &'s Tables<'_>,
     e: &'s Expr,
 ) -> Result<Doing<'s>, Memory>
     ensures meant { let watcher = watched_by P.after_began P.after_judged in IfOk result (λ next. Goes watcher tables.now stack.old.items (value_of watcher tables.now e.now) s.old stack.new.items next s.new) }

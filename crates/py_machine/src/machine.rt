@@ -25,10 +25,11 @@ use py_tables::Tables;
 use pyn_base::{Construct, Memory, Name};
 use std::alloc::Global;
 
-/// A machine with a module, in the state that the statements so far have left. `P` watches the module's nodes.
+/// A machine with a module, in the state that the statements so far have left. `P` watches the module's nodes. The module's tables are lent for
+/// as long as its statements live, so a test may live shorter than the module that it was made for.
 #[derive(Drop)]
-pub struct Machine<'m, P> {
-    tables: &'m Tables<'m>,
+pub struct Machine<'s, 'm, P> {
+    tables: &'s Tables<'m>,
     state: State<Objects, P>,
     /// What has ended the machine, after which it does nothing.
     ended: Option<Stop>,
@@ -65,14 +66,14 @@ fn stopped_by(end: End) -> Option<Stop>
     }
 }
 
-impl<'m, P: Probe> Machine<'m, P> {
+impl<'s, 'm, P: Probe> Machine<'s, 'm, P> {
     /// A machine in the state after the import of a module, with no object (Language Reference 5.4, 8.7 and 8.8). The tables are the module's.
     pub fn load(
         alloc: Global,
         tree: &'m Module,
-        tables: &'m Tables<'m>,
+        tables: &'s Tables<'m>,
         probe: P,
-    ) -> Result<Machine<'m, P>, Memory>
+    ) -> Result<Machine<'s, 'm, P>, Memory>
         requires { tables.now ≡ program_of tree.now }
         ensures program { IfOk result (λ machine. machine.tables.now ≡ tables.now) }
         ensures state { IfOk result (λ machine. machine.state ≡ imported tables.now probe) }
@@ -90,7 +91,7 @@ impl<'m, P: Probe> Machine<'m, P> {
     /// Runs a statement of the test with so many steps. It ends and leaves the state as the plain meaning says, unless memory is wanted. After
     /// OutOfSteps, Left or Memory the machine has ended: it answers Ended with that from then on, and changes nothing. A statement makes at most
     /// twice as many objects as it takes steps.
-    pub fn run_statement(&mut self, stmt: &'m Stmt, limit: u32) -> End
+    pub fn run_statement(&mut self, stmt: &'s Stmt, limit: u32) -> End
         ensures over { (stop : Stopped) → self.old.ended ≡ Some stop → (result ≡ end.Ended stop) × (self.new ≡ self.old) }
         ensures program { self.new.tables.now ≡ self.old.tables.now }
         ensures meant { self.old.ended ≡ None → EndsAs result self.new.state (run_statement (watched_by P.after_began P.after_judged) self.old.tables.now limit stmt.now self.old.state) }
@@ -117,7 +118,7 @@ impl<'m, P: Probe> Machine<'m, P> {
     }
     /// Runs an assertion of the test with so many steps. Its end is that of the statement, and each object and each variable stays as it was,
     /// unless memory is wanted; what the assertion made is cut off. So the object that Raised names is there no more.
-    pub fn run_assertion(&mut self, stmt: &'m Stmt, limit: u32) -> End
+    pub fn run_assertion(&mut self, stmt: &'s Stmt, limit: u32) -> End
         ensures over { (stop : Stopped) → self.old.ended ≡ Some stop → (result ≡ end.Ended stop) × (self.new ≡ self.old) }
         ensures program { self.new.tables.now ≡ self.old.tables.now }
         ensures meant { (levels : ℕ) → IsTrue (is_assertion levels stmt.now) → IsOfTest P self.old.state → self.old.ended ≡ None → EndsAs result self.new.state (run_assertion (watched_by P.after_began P.after_judged) self.old.tables.now limit stmt.now self.old.state) }
@@ -135,7 +136,7 @@ impl<'m, P: Probe> Machine<'m, P> {
     }
 
     /// What the module's names are looked up in.
-    pub fn tables(&self) -> &'m Tables<'m>
+    pub fn tables(&self) -> &'s Tables<'m>
         ensures { result.now ≡ self.now.tables.now }
     {
         self.tables

@@ -18,7 +18,7 @@ use pyn_base::Memory;
 pub(crate) fn resume_pending<'s, P: Probe>(
     s: &mut State<Objects, P>,
     stack: &mut Vec<Control<'s>>,
-    tables: &'s Tables<'s>,
+    tables: &'s Tables<'_>,
     pending: Pending<'s>,
     x: Finding,
 ) -> Result<Doing<'s>, Memory>

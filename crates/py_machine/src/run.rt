@@ -28,7 +28,7 @@ pub(crate) enum Turn<'s> {
 fn take_turn<'s, P: Probe>(
     s: &mut State<Objects, P>,
     stack: &mut Vec<Control<'s>>,
-    tables: &'s Tables<'s>,
+    tables: &'s Tables<'_>,
     doing: Doing<'s>,
 ) -> Result<Turn<'s>, Memory>
     ensures meant { let watcher = watched_by P.after_began P.after_judged in IfOk result (λ turn. Turned watcher tables.now turn stack.new.items s.new ≡ rest watcher tables.now stack.old.items doing.entry s.old) }
@@ -62,7 +62,7 @@ fn take_turn<'s, P: Probe>(
 pub(crate) fn run<'s, P: Probe>(
     alloc: Global,
     s: &mut State<Objects, P>,
-    tables: &'s Tables<'s>,
+    tables: &'s Tables<'_>,
     stmt: &'s Stmt,
 ) -> Result<Outcome<Finding>, Memory>
     ensures { let watcher = watched_by P.after_began P.after_judged in IfOk result (λ end. means watcher tables.now stmt.now s.old ≡ (end, s.new)) }

@@ -1,0 +1,17 @@
+pub mod Blocks
+pub mod Goals
+pub mod Held
+pub mod Kept
+pub mod KeptCalls
+pub mod KeptExpressions
+pub mod KeptRuns
+pub mod KeptStatements
+pub mod Lists
+pub mod Matches
+pub mod Numbers
+pub mod QuietParts
+pub mod QuietValues
+pub mod ReadModules
+pub mod Tests
+pub mod Trails
+pub mod Unique

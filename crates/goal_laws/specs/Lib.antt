@@ -1,0 +1,2 @@
+pub mod Governors
+pub mod Laws

@@ -1,0 +1,6 @@
+mod Again
+mod Alone
+mod Given
+mod Taking
+mod Told
+mod Walked

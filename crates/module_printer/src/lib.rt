@@ -20,6 +20,10 @@ mod rows;
 mod small;
 mod targets;
 
+pub use blocks::statement;
 pub use examples::modules_by_example;
+pub use headers::def;
 pub use laws::law_of_lines;
 pub use modules::print_module;
+pub use page::{INDENT, Page};
+pub use rows::{new_pen, tested_line};

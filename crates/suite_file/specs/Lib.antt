@@ -1,0 +1,5 @@
+pub mod Examples
+pub mod Folds
+pub mod Laws
+pub mod Spelled
+pub mod SuiteOf

@@ -1,0 +1,3 @@
+mod BodyRows
+mod Pages
+mod Tests

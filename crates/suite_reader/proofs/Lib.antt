@@ -1,0 +1,4 @@
+mod Collected
+mod Levels
+mod Numerals
+mod Read

@@ -1,0 +1,7 @@
+use Rattle.std.proofs.Common.{◌≡◌, drop}
+use Rattle.suite_file.specs.Spelled.{variables_in}
+use Rattle.suite_reader.proofs.Collected.{after_front}
+use Rattle.suite_reader.proofs.variables.variables_in.Given as goal
+
+abbrev pub invariant-loop-e : goal.invariant-loop-e
+invariant-loop-e l = after_front l.variables (variables_in (drop l.e-index l.es)) ≡ variables_in l.es

@@ -1,0 +1,2 @@
+mod DisplayLevels
+mod Integers

@@ -1,0 +1,7 @@
+mod Clean
+mod ExampleRules
+mod Expressions
+mod Fitting
+mod Lines
+mod Shapes
+pub mod StatementRows

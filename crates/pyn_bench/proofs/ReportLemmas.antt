@@ -1,11 +1,11 @@
 -- A count at its end, and what is said behind what was said before.
-use Rattle.std.proofs.Common.{◌≡◌, ◌∙◌, ap, refl, ℕ, ◌+◌, ◌^◌, ◌<◌, List, [], ◌∷◌, length, Option, Some, None, Result, Ok, Err, IfSome, OnOk, encode_utf8_all, arith}
+use Rattle.std.proofs.Common.{◌≡◌, ◌∙◌, ap, refl, ℕ, ◌+◌, ◌^◌, ◌<◌, List, [], ◌∷◌, length, Option, Some, None, Result, Ok, Err, IfSome, OnOk, arith}
 use Rattle.py_language.specs.declared.token.Logical.{Logical}
 use Rattle.pyn_base.specs.declared.desk.DeskFail.{DeskFail}
 use Rattle.pyn_base.specs.Desk.{append, failure_of}
 use Rattle.pyn_base.specs.Files.{Files, content}
 use Rattle.pyn_bench.specs.declared.reports.Reading.{Reading}
-use Rattle.pyn_bench.specs.Reports.{counted, tokens_in, report, said_of}
+use Rattle.pyn_bench.specs.Reports.{counted, tokens_in, said_of}
 
 counted_small : (n : ℕ) → n < 2 ^ 64 → n ≡ counted (n + 0)
 counted_small n lt = omega arith

@@ -9,11 +9,11 @@ use Rattle.py_syntax.specs.declared.module.Module.{Module}
 use Rattle.py_syntax.specs.declared.refusal.Refusal.{Refusal}
 use Rattle.py_syntax.specs.declared.refusal.Refusal.TheVariants as refusal
 use Rattle.py_parser.specs.Parsed.{parsed}
-use Rattle.pyn_base.specs.Construct.{text_of}
-use Rattle.pyn_base.specs.declared.construct.Construct.{Construct}
 use Rattle.pyn_base.specs.declared.construct.Construct.TheVariants.{TooLong}
 use Rattle.pyn_bench.specs.declared.reports.Reading.{Reading}
 use Rattle.pyn_bench.specs.declared.reports.Reading.TheVariants as reading
+use Rattle.pyn_bench.specs.Refused.{refused_text}
+use Rattle.pyn_bench.specs.Runs.{run_report}
 
 -- how many tokens logical lines have
 abbrev pub tokens_in : List Logical → ℕ
@@ -45,9 +45,6 @@ expression_report tokens = codes "tokens " ++ decimal (length tokens) ++ answer 
 abbrev pub read_text : ℕ → List ℕ
 read_text nodes = codes "read\nnodes " ++ decimal nodes ++ codes "\n"
 
-abbrev pub refused_text : ℕ → Construct → List ℕ
-refused_text line construct = codes "refused line " ++ decimal line ++ codes " " ++ text_of construct ++ codes "\n"
-
 -- no definition gives the refusal for want of memory
 abbrev pub answer_text : Result Module Refusal → List ℕ
 answer_text (Ok m) = read_text m.nodes
@@ -63,6 +60,7 @@ abbrev pub report : Reading → List ℕ → List ℕ
 report reading.Tokens text = counts_report (tokens_of text).lines
 report reading.Expression text = expression_report (first_line (tokens_of text).lines)
 report reading.Module text = module_report text
+report (reading.Run times) text = run_report times text
 
 -- the bytes that are said of a text
 abbrev pub said_of : Reading → List ℕ → List ℕ

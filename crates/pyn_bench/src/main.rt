@@ -1,12 +1,14 @@
-//! Reads a text and says how much it read, so that the readers of Python can be timed.
+//! Reads a text and says how much it read, or how far a module's first function ran, so that the readers of Python and the machine can be timed.
 //!
-//! Its two words are what to read the text as, and the file. `tokens` cuts the text with `py_lexer`, and prints the counts
+//! Its words are what to do with the text, and the file. `tokens` cuts the text with `py_lexer`, and prints the counts
 //! of its logical lines and of its tokens, as `lines N` and `tokens N`. `expression` reads the first logical line with
 //! `py_expr`, and prints its count of tokens as `tokens N`, and then `read` or `refused`. `module` reads the text with
 //! `py_parser`, and prints `read` and then the count of its nodes as `nodes N`, or `refused line N` and the construct.
-//! `bench/tokens.sh`, `bench/expressions.sh` and `bench/modules.sh` run it.
+//! `run` has a third word, a number up to 4,294,967,295: it reads the text as a module, calls its first function so many times with no argument, as
+//! a test's statement does, and prints how many calls ended, normally or by an exception, as `calls N`, and the steps of these as `steps N`.
+//! `bench/tokens.sh`, `bench/expressions.sh`, `bench/modules.sh` and `bench/runs.sh` run it.
 //!
-//! It stands on `py_parser`, `py_expr`, `py_lexer` and `pyn_base`, and nothing stands on it.
+//! It stands on `py_machine`, `test_chromosome`, `py_parser`, `py_expr`, `py_lexer` and `pyn_base`, and nothing stands on it.
 #![tactic(auto)]
 
 ghost use Rattle.std.specs.Prelude.{◌≡◌, chars, IfSome, OnOk};
@@ -16,6 +18,7 @@ ghost use Rattle.pyn_bench.specs.Reports.{said_of};
 
 mod modules;
 mod reports;
+mod runs;
 
 use pyn_base::{Desk, DeskFail, RealDesk};
 pub use reports::Reading;
@@ -37,37 +40,52 @@ fn run<D: Desk>(alloc: Global, desk: &mut D, reading: Reading, name: &str) -> Re
     desk.say(alloc, text.as_str().as_bytes())
 }
 
-fn reading_of(word: &str) -> Option<Reading> {
-    match word {
+/// The words after the program's name: what to do, with which file, and how often.
+#[derive(Drop)]
+struct Words {
+    what: String,
+    name: String,
+    times: Option<String>,
+}
+
+fn reading_of(words: &Words) -> Option<Reading> {
+    match words.what.as_str() {
         "tokens" => Some(Reading::Tokens),
         "expression" => Some(Reading::Expression),
         "module" => Some(Reading::Module),
+        "run" => match &words.times {
+            Some(times) => Some(Reading::Run(times.as_str().parse().ok()?)),
+            None => None,
+        },
         _ => None,
     }
 }
 
-// The two words after the program's name.
-fn words<R: Env + AllocGlobal>(rt: &R) -> io::Result<Option<(String, String)>> {
+fn read_words<R: Env + AllocGlobal>(rt: &R) -> io::Result<Option<Words>> {
     let mut words = env::args(rt)?.skip(1);
-    let Some(first) = words.next() else {
+    let Some(what) = words.next() else {
         return Ok(None);
     };
-    let Some(second) = words.next() else {
+    let Some(name) = words.next() else {
         return Ok(None);
     };
-    Ok(Some((first, second)))
+    Ok(Some(Words {
+        what,
+        name,
+        times: words.next(),
+    }))
 }
 
 fn main(rt: HostRuntime) -> ExitCode {
-    let Ok(Some((word, name))) = words(&rt) else {
+    let Ok(Some(words)) = read_words(&rt) else {
         return ExitCode::from(2);
     };
-    let Some(reading) = reading_of(word.as_str()) else {
+    let Some(reading) = reading_of(&words) else {
         return ExitCode::from(2);
     };
     let alloc = rt.alloc();
     let mut desk = RealDesk::new(rt);
-    match run(alloc, &mut desk, reading, name.as_str()) {
+    match run(alloc, &mut desk, reading, words.name.as_str()) {
         Ok(()) => ExitCode::from(0),
         Err(_) => ExitCode::from(1),
     }

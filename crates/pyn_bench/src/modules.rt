@@ -1,6 +1,7 @@
 // What is said of a text that is read as a module.
 ghost use Rattle.std.specs.Prelude.{◌≡◌, IfOk};
-ghost use Rattle.pyn_bench.specs.Reports.{read_text, refused_text, module_report};
+ghost use Rattle.pyn_bench.specs.Refused.{refused_text};
+ghost use Rattle.pyn_bench.specs.Reports.{read_text, module_report};
 
 use py_parser::read_module;
 use py_syntax::{Line, Refusal};
@@ -8,7 +9,7 @@ use pyn_base::{Construct, Memory, Text};
 use std::alloc::Global;
 
 /// The most bytes that a module has.
-const LONGEST_MODULE: usize = 262144;
+pub(crate) const LONGEST_MODULE: usize = 262144;
 
 fn read_text(alloc: Global, nodes: u32) -> Result<Text, Memory>
     ensures { IfOk result (λ t. t ≡ read_text nodes) }
@@ -20,7 +21,8 @@ fn read_text(alloc: Global, nodes: u32) -> Result<Text, Memory>
     Ok(text)
 }
 
-fn refused_text(alloc: Global, line: Line, construct: Construct) -> Result<Text, Memory>
+/// What is said of a text that isn't read.
+pub(crate) fn refused_text(alloc: Global, line: Line, construct: Construct) -> Result<Text, Memory>
     ensures { IfOk result (λ t. t ≡ refused_text line construct) }
 {
     let mut text = Text::new(alloc);

@@ -5,6 +5,7 @@ ghost use Rattle.py_language.specs.Trees.{tree_of};
 ghost use Rattle.pyn_bench.specs.Reports.{counted, tokens_in, counts_report, first_line, expression_report, report};
 
 use crate::modules::module_report;
+use crate::runs::run_report;
 use py_expr::{ExprFault, read_expr};
 use py_lexer::{Logical, Token, tokens};
 use pyn_base::{Memory, Text};
@@ -19,6 +20,8 @@ pub enum Reading {
     Expression,
     /// The whole text is read as a module.
     Module,
+    /// The whole text is read as a module, and its first function is called so many times.
+    Run(u32),
 }
 
 fn token_count(lines: &[Logical]) -> u64
@@ -91,5 +94,6 @@ pub fn report(alloc: Global, reading: Reading, text: &[u8]) -> Result<Text, Memo
             expression_report(alloc, first_line(tokens(alloc, text)?.lines.as_slice()))
         }
         Reading::Module => module_report(alloc, text),
+        Reading::Run(times) => run_report(alloc, times, text),
     }
 }

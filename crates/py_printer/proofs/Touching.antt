@@ -15,23 +15,21 @@ or_both : (v w : Bool) → (v || w) ≡ false → (v ≡ false) × (w ≡ false)
 or_both true w e = absurd (cc)
 or_both false w e = (refl, e)
 
--- a character that no mark goes on with
+-- a character that no mark but the dot goes on with
 record Fresh (c : ℕ) : Type 0 where
   equal : nat_eq c 61 ≡ false
   more : nat_eq c 62 ≡ false
   less : nat_eq c 60 ≡ false
   star : nat_eq c 42 ≡ false
   slash : nat_eq c 47 ≡ false
-  dot : nat_eq c 46 ≡ false
 
 fresh : (c : ℕ) → is_joined c ≡ false → Fresh c
 fresh c h =
     let a = or_both (nat_eq c 61) _ h in
     let b = or_both (nat_eq c 62) _ a.1 in
     let d = or_both (nat_eq c 60) _ b.1 in
-    let e = or_both (nat_eq c 42) _ d.1 in
-    let f = or_both (nat_eq c 47) (nat_eq c 46) e.1 in
-    record { equal = a.0; more = b.0; less = d.0; star = e.0; slash = f.0; dot = f.1 }
+    let e = or_both (nat_eq c 42) (nat_eq c 47) d.1 in
+    record { equal = a.0; more = b.0; less = d.0; star = e.0; slash = e.1 }
 
 mark_ends : (m : Mark) (c : ℕ) → goes_on (last_of (t.Mark m)) c ≡ false → ends_before (t.Mark m) c ≡ true
 unfolding marks
@@ -64,7 +62,7 @@ mark_ends m.LeftBrace c h = refl
 mark_ends m.RightBrace c h = refl
 mark_ends m.Comma c h = refl
 mark_ends m.Colon c h = let f = fresh c h in rw (f.equal) refl
-mark_ends m.Dot c h = let two = or_both (is_joined c) (is_digit c) h in let f = fresh c two.0 in rw (f.dot, two.1) refl
+mark_ends m.Dot c h = let two = or_both (nat_eq c 46) (is_digit c) h in rw (two.0, two.1) refl
 mark_ends m.Semicolon c h = refl
 mark_ends m.Equal c h = let f = fresh c h in rw (f.equal) refl
 mark_ends m.Arrow c h = refl

@@ -12,9 +12,9 @@ use Rattle.py_printer.specs.declared.kinds.Place.TheVariants as place
 
 -- ---- where a space has to be
 
--- a mark may go on with these: `=`, `>`, `<`, `*`, `/` and `.`
+-- a mark but the dot may go on with these: `=`, `>`, `<`, `*` and `/`
 abbrev pub is_joined : ℕ → Bool
-is_joined c = c == 61 || (c == 62 || (c == 60 || (c == 42 || (c == 47 || c == 46))))
+is_joined c = c == 61 || (c == 62 || (c == 60 || (c == 42 || c == 47)))
 
 -- a text with this end might be read on with the character
 abbrev pub goes_on : Last → ℕ → Bool
@@ -22,7 +22,7 @@ goes_on last.Nothing c = false
 goes_on last.Word c = is_word c || is_quote c
 goes_on last.Number c = is_word c || c == 46
 goes_on last.Quoted c = is_quote c
-goes_on last.Dot c = is_joined c || is_digit c
+goes_on last.Dot c = c == 46 || is_digit c
 goes_on last.Mark c = is_joined c
 
 abbrev pub is_nothing : Last → Bool

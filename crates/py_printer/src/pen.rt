@@ -26,11 +26,11 @@ pub struct Pen {
 
 const SUPER: &str = "super";
 
-/// What a mark may go on with.
+/// What a mark but the dot may go on with.
 fn is_joined(c: char) -> bool
     ensures { result ≡ is_joined c }
 {
-    c == '=' || c == '>' || c == '<' || c == '*' || c == '/' || c == '.'
+    c == '=' || c == '>' || c == '<' || c == '*' || c == '/'
 }
 
 fn is_digit(c: char) -> bool
@@ -60,7 +60,7 @@ fn goes_on(last: Last, c: char) -> bool
         Last::Word => is_word(c) || is_quote(c),
         Last::Number => is_word(c) || c == '.',
         Last::Quoted => is_quote(c),
-        Last::Dot => is_joined(c) || is_digit(c),
+        Last::Dot => c == '.' || is_digit(c),
         Last::Mark => is_joined(c),
     }
 }

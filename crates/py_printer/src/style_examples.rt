@@ -20,6 +20,7 @@ pub fn style_by_example()
     ensures dict { text_of (mark m.LeftBrace ∷ string "k" ∷ mark m.Colon ∷ name "v" ∷ mark m.RightBrace ∷ []) ≡ codes "{\"k\": v}" }
     ensures tuple_of_one { text_of (mark m.LeftParen ∷ name "a" ∷ mark m.Comma ∷ mark m.RightParen ∷ []) ≡ codes "(a,)" }
     ensures number_with_an_attribute { text_of (integer 1 ∷ mark m.Dot ∷ name "real" ∷ []) ≡ codes "1 .real" }
+    ensures method_of_a_result { text_of (name "f" ∷ mark m.LeftParen ∷ mark m.RightParen ∷ mark m.Dot ∷ name "g" ∷ mark m.LeftParen ∷ mark m.RightParen ∷ []) ≡ codes "f().g()" }
     ensures keywords { text_of (name "a" ∷ Keyword k.Is ∷ Keyword k.Not ∷ Keyword k.NoneLit ∷ []) ≡ codes "a is not None" }
     ensures parameters { text_of (name "f" ∷ mark m.LeftParen ∷ name "a" ∷ mark m.Colon ∷ name "int" ∷ mark m.Equal ∷ integer 1 ∷ mark m.Comma ∷ name "b" ∷ mark m.Equal ∷ integer 2 ∷ mark m.RightParen ∷ []) ≡ codes "f(a: int = 1, b=2)" }
     ensures tree { text_of (shape_tokens Conditional (e.Binary Mul (e.Binary Add (e.Atom (a.Name (codes "a"))) (e.Atom (a.Name (codes "b")))) (e.Atom (a.Name (codes "c"))))) ≡ codes "(a + b) * c" }

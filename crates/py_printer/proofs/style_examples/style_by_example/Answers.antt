@@ -32,6 +32,10 @@ pub returns-clause-number_with_an_attribute : goal.returns-clause-number_with_an
 unfolding put digits
 returns-clause-number_with_an_attribute c = refl
 
+pub returns-clause-method_of_a_result : goal.returns-clause-method_of_a_result
+unfolding put digits
+returns-clause-method_of_a_result c = refl
+
 pub returns-clause-keywords : goal.returns-clause-keywords
 unfolding put digits
 returns-clause-keywords c = refl

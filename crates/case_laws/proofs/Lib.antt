@@ -1,0 +1,5 @@
+mod Again
+mod Alone
+mod Files
+mod Gains
+mod Passing

@@ -1,0 +1,3 @@
+pub mod AcceptedModules
+mod Distinct
+mod Lists

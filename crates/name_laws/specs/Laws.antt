@@ -1,0 +1,17 @@
+-- What holds of the names of functions and classes: in every module that is accepted.
+use Rattle.std.specs.Prelude.{None, Some, slice_get, ℕ, ◌≡◌}
+use Rattle.pyn_base.specs.declared.class.ClassId.TheVariants.{Own}
+use Rattle.py_syntax.specs.declared.module.Module.{Module}
+use Rattle.py_plain.specs.Program.{ClassInfo, Function, Program, program_of}
+use Rattle.py_scopes.specs.Refusals.{refusal}
+use Rattle.suite_file.specs.SuiteOf.{function_named, own_class_named}
+
+-- Each function that is no method, and each class, is found by its name; no name is that of both.
+pub record NamesAreFound (program : Program) : Type 0 where
+  pub functions : (i : ℕ) (f : Function) → slice_get program.functions i ≡ Some f → f.owner ≡ None → function_named program f.tree.name ≡ Some (record { 0 = i })
+  pub classes : (i : ℕ) (c : ClassInfo) → slice_get program.classes i ≡ Some c → own_class_named program c.name ≡ Some (Own i)
+  pub apart : (i : ℕ) (c : ClassInfo) → slice_get program.classes i ≡ Some c → function_named program c.name ≡ None
+
+-- A module that is accepted binds no name twice at its level.
+abbrev pub AcceptedNamesAreFound : Type 0
+AcceptedNamesAreFound = (m : Module) → refusal m ≡ None → NamesAreFound (program_of m)

@@ -1,10 +1,13 @@
-//! The names of a module's functions and classes: in a module that is accepted each finds what it names.
+//! The names of a module's functions and classes: each is an identifier, and in a module that is accepted each finds what it names.
 //!
-//! That no two functions have one name is no part of the meaning: it is proved here from the row of acceptance that refuses a name bound twice.
+//! That a name is no keyword is no part of the definition of a module, and that no two functions have one name is no part of the meaning: the
+//! first is proved here from the definition of reading, and the second from the row of acceptance that refuses a name bound twice. So whoever
+//! writes a module's names into a file can read them back, and means by them what the module means.
 //!
-//! It builds on `py_scopes` and `suite_file`, and has definitions and laws alone: no reader, no printer and no run is known here.
+//! It builds on `line_laws`, `py_spelling`, `py_scopes` and `suite_file`, and has definitions and laws alone: no reader, no printer and no run is
+//! known here.
 #![tactic(auto)]
 
 mod laws;
 
-pub use laws::laws_of_accepted_names;
+pub use laws::{laws_of_accepted_names, laws_of_read_names};

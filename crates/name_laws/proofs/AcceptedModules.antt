@@ -11,11 +11,11 @@ use Rattle.py_syntax.specs.declared.module.Item.{Item}
 use Rattle.py_syntax.specs.declared.module.Item.TheVariants as item
 use Rattle.py_syntax.specs.declared.module.Member.{Member}
 use Rattle.py_syntax.specs.declared.module.Member.TheVariants as member
-use Rattle.py_plain.specs.Program.{ClassInfo, Function, class_info, classes_from, functions_from, methods_from, methods_in, numbered}
+use Rattle.py_plain.specs.Program.{ClassInfo, Function, class_info, classes_from, functions_from, methods_from, methods_in, numbered, program_of, Program}
 use Rattle.py_scopes.specs.Names.{Bound, bound, bound_by, bound_by_item, module_names, names_of}
 use Rattle.suite_file.specs.SuiteOf.{own_functions}
 use Rattle.name_laws.proofs.Distinct.{Apart, Differs, Distinct, accepted_distinct}
-use Rattle.name_laws.specs.Laws.{AcceptedNamesAreFound}
+use Rattle.name_laws.specs.Laws.{AcceptedNamesAreFound, NamesAreFound}
 
 -- ---- rows of a table, by their names
 
@@ -31,10 +31,10 @@ named_later row rows name differs = by (bytes_eq name row.0) refl
 
 -- ---- functions that are no methods, and their names
 
-abbrev name_unless : Bool → List ℕ → List (List ℕ)
+abbrev pub name_unless : Bool → List ℕ → List (List ℕ)
 name_unless b name = if b then [] else name ∷ []
 
-abbrev own_names : List Function → List (List ℕ)
+abbrev pub own_names : List Function → List (List ℕ)
 own_names [] = []
 own_names (f ∷ fs) = name_unless (is_some f.owner) f.tree.name ++ own_names fs
 
@@ -91,7 +91,7 @@ no_function k (g ∷ fs) name h =
 
 -- ---- classes and their names
 
-abbrev infos_names : List ClassInfo → List (List ℕ)
+abbrev pub infos_names : List ClassInfo → List (List ℕ)
 infos_names infos = map (λ (c : ClassInfo). c.name) infos
 
 class_at : (P : List ℕ → Type 0) (cs : List ClassInfo) (i : ℕ) (c : ClassInfo) → AllByRecursion P (infos_names cs) → slice_get cs i ≡ Some c → P c.name
@@ -211,17 +211,20 @@ classes_are infos functions (item.Other stmt ∷ items) = classes_are infos func
 from_none : (i : ℕ) → 0 + i ≡ i
 from_none i = omega arith
 
+pub found_in : (program : Program) → Distinct (own_names program.functions) → Distinct (infos_names program.classes) → AllByRecursion (Apart (own_names program.functions)) (infos_names program.classes) → NamesAreFound program
+found_in program functions classes apart = record {
+  functions = λ i f at none. function_found 0 program.functions i f functions at none ∙ ap (λ n. Some (record { 0 = n })) (from_none i);
+  classes = λ i c at. class_found 0 program.classes i c classes at ∙ ap (λ n. Some (Own n)) (from_none i);
+  apart = λ i c at. no_function 0 program.functions c.name (class_at (Apart (own_names program.functions)) program.classes i c apart at);
+}
+
 pub names_found : AcceptedNamesAreFound
 names_found m e =
     let p = parted m.items (accepted_distinct m e) in
-    let fs = functions_from 0 m.items in
-    let cs = classes_from [] 0 m.items in
-    let functions : Distinct (own_names fs) = subst Distinct (sym (functions_are 0 m.items)) p.functions in
-    let classes : Distinct (infos_names cs) = subst Distinct (sym (classes_are [] 0 m.items)) p.classes in
-    let apart : AllByRecursion (Apart (own_names fs)) (infos_names cs) =
-    subst (λ names. AllByRecursion (Apart names) (infos_names cs)) (sym (functions_are 0 m.items)) (subst (AllByRecursion (Apart (function_names m.items))) (sym (classes_are [] 0 m.items)) p.apart) in
-    record {
-      functions = λ i f at none. function_found 0 fs i f functions at none ∙ ap (λ n. Some (record { 0 = n })) (from_none i);
-      classes = λ i c at. class_found 0 cs i c classes at ∙ ap (λ n. Some (Own n)) (from_none i);
-      apart = λ i c at. no_function 0 fs c.name (class_at (Apart (own_names fs)) cs i c apart at);
-    }
+    let fs = functions_are 0 m.items in
+    let cs = classes_are [] 0 m.items in
+    let functions : Distinct (own_names (functions_from 0 m.items)) = subst Distinct (sym fs) p.functions in
+    let classes : Distinct (infos_names (classes_from [] 0 m.items)) = subst Distinct (sym cs) p.classes in
+    let apart : AllByRecursion (Apart (own_names (functions_from 0 m.items))) (infos_names (classes_from [] 0 m.items)) =
+    subst (λ names. AllByRecursion (Apart names) (infos_names (classes_from [] 0 m.items))) (sym fs) (subst (AllByRecursion (Apart (function_names m.items))) (sym cs) p.apart) in
+    found_in (program_of m) functions classes apart

@@ -1,4 +1,5 @@
 pub mod AcceptedModules
+pub mod ByExample
 mod Cuts
 mod Distinct
 mod Headers

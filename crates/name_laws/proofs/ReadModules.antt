@@ -52,10 +52,10 @@ read_named sound text m e =
 
 -- ---- functions and classes
 
-abbrev FunctionNamed : Function → Type 0
+abbrev pub FunctionNamed : Function → Type 0
 FunctionNamed f = IsIdentifier f.tree.name
 
-abbrev InfoNamed : ClassInfo → Type 0
+abbrev pub InfoNamed : ClassInfo → Type 0
 InfoNamed c = IsIdentifier c.name
 
 methods_named : (number : ℕ) (members : List Member) → AllByRecursion MemberNamed members → AllByRecursion FunctionNamed (methods_in number members)

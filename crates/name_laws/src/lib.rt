@@ -8,6 +8,8 @@
 //! known here.
 #![tactic(auto)]
 
+mod examples;
 mod laws;
 
+pub use examples::{found_by_example, identifiers_by_example};
 pub use laws::{laws_of_accepted_names, laws_of_read_names};

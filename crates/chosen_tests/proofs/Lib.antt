@@ -1,0 +1,4 @@
+mod FirstPass
+mod OfTests
+mod SecondPass
+mod Tally

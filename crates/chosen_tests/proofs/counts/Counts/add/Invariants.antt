@@ -1,0 +1,6 @@
+use Rattle.std.proofs.Common.{take}
+use Rattle.chosen_tests.specs.Counting.{Rose}
+use Rattle.chosen_tests.proofs.counts.Counts.add.Given as goal
+
+abbrev pub invariant-loop-number : goal.invariant-loop-number
+invariant-loop-number l = Rose l.fn.self l.self (take l.number-index l.numbers)

@@ -1,3 +1,5 @@
+pub mod ByHash
+pub mod SameHash
 pub mod Writes
 pub mod Costs
 pub mod Fronts

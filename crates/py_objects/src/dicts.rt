@@ -1,13 +1,14 @@
 // Dicts: looked up, written and shortened. A key's cost comes first, also where it is no key.
 ghost use Rattle.std.specs.Prelude.{◌≡◌, ◌≤◌, ℕ, ◌+◌, ◌-◌, nat_le, if◌then◌else◌, length, IfOk, OnOk, OnErr};
 ghost use Rattle.std.specs.Option.{option_copied};
-ghost use Rattle.py_meaning.specs.Steps.{Does, DoesFree, changes, UnlessMemory};
+ghost use Rattle.py_meaning.specs.Steps.{Does, DoesFree, UnlessMemory};
 ghost use Rattle.py_meaning.specs.Keys.{key_cost, value_of_key};
-ghost use Rattle.py_meaning.specs.Operations.{dict_get, dict_put, dict_put_free, dict_delete, dict_delete_free, put_pair, delete_pair};
+ghost use Rattle.py_meaning.specs.Worlds.{pairs};
+ghost use Rattle.py_meaning.specs.Operations.{dict_get, dict_put, dict_put_free, dict_delete, dict_delete_free};
 ghost use Rattle.py_meaning.specs.DictMethods.{set_default};
 
-use crate::keys::{key_cost_within, key_place, pay_key};
-use crate::{Object, Objects, Op, Value};
+use crate::keys::{key_cost_within, pay_key};
+use crate::{Objects, Op, Value};
 use py_meaning::{done, made};
 use pyn_base::{BuiltClass, Fuel, Memory, ObjId};
 
@@ -21,7 +22,7 @@ impl Objects {
             return Op::OutOfSteps;
         }
         done!(self.as_key(key));
-        match value_of_key(key, self.pairs(dict)) {
+        match self.value_of_key(dict, key) {
             Some(value) => Op::Done(made!(value.share())),
             None => Op::Raises(BuiltClass::KeyError),
         }
@@ -76,6 +77,16 @@ impl Objects {
         self.dict_delete_free(dict, key)
     }
 
+    /// The value of a key, found at the time of the key's cost.
+    pub(crate) fn value_of_key(&self, dict: ObjId, key: &Value) -> Option<&Value>
+        ensures { option_copied result ≡ value_of_key key.now (pairs self.now dict) }
+    {
+        match self.held(dict) {
+            Some(held) => held.value_of_key(key),
+            None => None,
+        }
+    }
+
     /// Puts a value under what is a key, and gives it.
     fn put_new(&mut self, dict: ObjId, key: &Value, value: &Value) -> Result<Value, Memory>
         ensures given { IfOk result (λ given. given ≡ value.now) }
@@ -92,9 +103,9 @@ impl Objects {
         ensures ok { OnOk result (self.new ≡ dict_put_free dict key value self.old) }
         ensures err { OnErr result (self.new ≡ self.old) }
     {
-        let mut object = self.take(dict);
-        let answer = put_pair(&mut object, key, value);
-        self.put(dict, object);
+        let mut held = self.take_held(dict);
+        let answer = held.put_pair(self.alloc, key, value);
+        self.put_held(dict, held);
         answer
     }
 
@@ -102,9 +113,9 @@ impl Objects {
     fn dict_delete_free(&mut self, dict: ObjId, key: &Value) -> Op<Value>
         ensures { DoesFree (dict_delete_free dict key.now) self.old result self.new }
     {
-        let mut object = self.take(dict);
-        let answer = delete_pair(&mut object, key);
-        self.put(dict, object);
+        let mut held = self.take_held(dict);
+        let answer = held.delete_pair(key);
+        self.put_held(dict, held);
         answer
     }
 }
@@ -117,60 +128,5 @@ fn pay_deletion(key: &Value, pairs: &[(Value, Value)], fuel: &mut Fuel) -> bool
     match key_cost_within(key, fuel.left()) {
         Some(cost) => fuel.take(cost as u64 + pairs.len() as u64),
         None => false,
-    }
-}
-
-fn delete_pair(object: &mut Object, key: &Value) -> Op<Value>
-    ensures { DoesFree (delete_pair key.now) object.old result object.new }
-{
-    match object {
-        Object::Dict(pairs, changes) => match key_place(key, pairs.as_slice()) {
-            Some(place) if place < pairs.len() => {
-                let (key, value) = pairs.remove(place);
-                drop(key);
-                *changes = changes.saturating_add(1);
-                Op::Done(value)
-            }
-            _ => Op::Raises(BuiltClass::KeyError),
-        },
-        _ => Op::Raises(BuiltClass::KeyError),
-    }
-}
-
-pub(crate) fn value_of_key<'a>(key: &Value, pairs: &'a [(Value, Value)]) -> Option<&'a Value>
-    ensures { option_copied result ≡ value_of_key key.now pairs.now }
-{
-    match key_place(key, pairs) {
-        Some(place) => match pairs.get(place) {
-            Some((_, value)) => Some(value),
-            None => None,
-        },
-        None => None,
-    }
-}
-
-/// Puts a pair into a dict; of another object nothing is done.
-pub(crate) fn put_pair(object: &mut Object, key: Value, value: Value) -> Result<(), Memory>
-    ensures ok { OnOk result (object.new ≡ put_pair key value object.old) }
-    ensures err { OnErr result (object.new ≡ object.old) }
-{
-    match object {
-        Object::Dict(pairs, changes) => match key_place(&key, pairs.as_slice()) {
-            Some(place) => {
-                drop(key);
-                pairs.set_second(place, value);
-                Ok(())
-            }
-            None => {
-                pairs.push((key, value))?;
-                *changes = changes.saturating_add(1);
-                Ok(())
-            }
-        },
-        _ => {
-            drop(key);
-            drop(value);
-            Ok(())
-        }
     }
 }

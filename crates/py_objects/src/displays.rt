@@ -3,11 +3,12 @@ ghost use Rattle.std.specs.Prelude.{◌≡◌, ◌≤◌, ◌-◌, nat_le, if◌
 ghost use Rattle.std.specs.List.{sum_by};
 ghost use Rattle.py_meaning.specs.Steps.{Does};
 ghost use Rattle.py_meaning.specs.Keys.{key_cost, as_key, all_keys};
+ghost use Rattle.py_meaning.specs.Worlds.{pairs};
 ghost use Rattle.py_meaning.specs.Operations.{made, put_all, make_dict, dict_copy};
 ghost use Rattle.py_objects.specs.Within.{within};
 
-use crate::dicts::put_pair;
 use crate::fork::shared_pairs;
+use crate::held::Held;
 use crate::keys::key_cost_within;
 use crate::{Object, Objects, Op, Sequence, Value};
 use py_meaning::{done, made};
@@ -35,8 +36,21 @@ impl Objects {
         if !fuel.take(count) {
             return Op::OutOfSteps;
         }
-        let pairs = made!(shared_pairs(self.alloc, self.pairs(dict)));
-        Op::Done(made!(self.make(Object::Dict(Sequence::from_vec(pairs), count))))
+        Op::Done(made!(self.add_copy(dict, count)))
+    }
+
+    /// A new dict with another's pairs and this number of key changes.
+    fn add_copy(&mut self, dict: ObjId, changes: u64) -> Result<ObjId, Memory>
+        ensures ok { IfOk result (λ id. made (Object.Dict (pairs self.old dict) changes) self.old ≡ (id, self.new)) }
+        ensures err { OnErr result (self.new ≡ self.old) }
+    {
+        let pairs = Sequence::from_vec(shared_pairs(self.alloc, self.pairs(dict))?);
+        let copy = Object::Dict(pairs, changes);
+        let held = match self.held(dict) {
+            Some(held) => Held::with_hashes_of(self.alloc, copy, held),
+            None => Held::new(copy),
+        };
+        self.make_held(held)
     }
 
     fn add_dict(&mut self, pairs: &[(Value, Value)]) -> Result<ObjId, Memory>
@@ -44,7 +58,7 @@ impl Objects {
         ensures err { OnErr result (self.new ≡ self.old) }
     {
         let dict = dict_of(self.alloc, pairs)?;
-        self.make(dict)
+        self.make_held(dict)
     }
 
     /// What the first key answers that is none.
@@ -58,12 +72,12 @@ impl Objects {
     }
 }
 
-fn dict_of(alloc: Global, pairs: &[(Value, Value)]) -> Result<Object, Memory>
+fn dict_of(alloc: Global, pairs: &[(Value, Value)]) -> Result<Held, Memory>
     ensures { IfOk result (λ dict. dict ≡ put_all pairs.now (Object.Dict [] 0)) }
 {
-    let mut dict = Object::Dict(Sequence::new(alloc), 0);
+    let mut dict = Held::new(Object::Dict(Sequence::new(alloc), 0));
     for pair in pairs {
-        put_pair(&mut dict, pair.0.share()?, pair.1.share()?)?;
+        dict.put_pair(alloc, pair.0.share()?, pair.1.share()?)?;
     }
     Ok(dict)
 }

@@ -1,9 +1,9 @@
 // Equality. The recursion is as deep as the comparison limit at most, whatever refers to what.
 ghost use Rattle.std.specs.Prelude.{◌≡◌, ◌≤◌, ◌+◌, ◌-◌, nat_le, if◌then◌else◌};
 ghost use Rattle.py_meaning.specs.Keys.{key_cost};
+ghost use Rattle.py_meaning.specs.Worlds.{pairs};
 ghost use Rattle.py_meaning.specs.Equal.{equal, equal_within, parts_within, equal_refs, equal_parts, equal_pair, equal_pairs, of_one_length, equal_texts};
 
-use crate::dicts::value_of_key;
 use crate::keys::key_cost_within;
 use crate::same::{is_same_single, is_same_text};
 use crate::{Object, Objects, Op, Value};
@@ -63,13 +63,8 @@ impl Objects {
             return Op::Done(true);
         }
         match self.object(i) {
-            Some(Object::Dict(xs, _)) => match self.object(j) {
-                Some(Object::Dict(ys, _)) => self.equal_dicts(
-                    levels,
-                    xs.as_slice(),
-                    ys.as_slice(),
-                    fuel,
-                ),
+            Some(Object::Dict(_, _)) => match self.object(j) {
+                Some(Object::Dict(_, _)) => self.equal_dicts(levels, i, j, fuel),
                 _ => Op::Done(false),
             },
             Some(Object::Instance(_, _, _)) => Op::Done(false),
@@ -96,21 +91,16 @@ impl Objects {
     }
 
     #[cycle(equal)]
-    fn equal_dicts(
-        &self,
-        levels: u8,
-        xs: &[(Value, Value)],
-        ys: &[(Value, Value)],
-        fuel: &mut Fuel,
-    ) -> Op<bool>
-        ensures { of_one_length (parts_within levels self.now).dicts xs.now ys.now fuel.old ≡ (result, fuel.new) }
+    fn equal_dicts(&self, levels: u8, i: ObjId, j: ObjId, fuel: &mut Fuel) -> Op<bool>
+        ensures { of_one_length (parts_within levels self.now).dicts (pairs self.now i) (pairs self.now j) fuel.old ≡ (result, fuel.new) }
     {
-        if xs.len() != ys.len() {
+        let ys = self.pairs(j);
+        if self.pairs(i).len() != ys.len() {
             Op::Done(false)
         } else if levels == 0 {
             Op::Leaves(Construct::ComparisonDepth)
         } else {
-            self.equal_pairs(levels - 1, xs, ys, fuel)
+            self.equal_pairs(levels - 1, i, ys, fuel)
         }
     }
 
@@ -138,11 +128,11 @@ impl Objects {
     fn equal_pairs(
         &self,
         levels: u8,
-        left: &[(Value, Value)],
+        left: ObjId,
         right: &[(Value, Value)],
         fuel: &mut Fuel,
     ) -> Op<bool>
-        ensures { equal_pairs (equal_within levels self.now) left.now right.now fuel.old ≡ (result, fuel.new) }
+        ensures { equal_pairs (equal_within levels self.now) (pairs self.now left) right.now fuel.old ≡ (result, fuel.new) }
     {
         for pair in right {
             if !done!(self.equal_pair(levels, left, pair, fuel)) {
@@ -157,16 +147,16 @@ impl Objects {
     fn equal_pair(
         &self,
         levels: u8,
-        left: &[(Value, Value)],
+        left: ObjId,
         pair: &(Value, Value),
         fuel: &mut Fuel,
     ) -> Op<bool>
-        ensures { equal_pair (equal_within levels self.now) left.now pair.now fuel.old ≡ (result, fuel.new) }
+        ensures { equal_pair (equal_within levels self.now) (pairs self.now left) pair.now fuel.old ≡ (result, fuel.new) }
     {
         if !pay_pair(&pair.0, fuel) {
             return Op::OutOfSteps;
         }
-        match value_of_key(&pair.0, left) {
+        match self.value_of_key(left, &pair.0) {
             Some(x) => self.equal_within(levels, x, &pair.1, fuel),
             None => Op::Done(false),
         }

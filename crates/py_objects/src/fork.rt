@@ -1,6 +1,7 @@
 // A second table with the same objects.
 ghost use Rattle.std.specs.Prelude.{◌≡◌, IfOk};
 
+use crate::held::Held;
 use crate::lists::shared_all;
 use crate::{Object, Objects, PyTuple, Sequence, Value};
 use pyn_base::{Memory, Name};
@@ -18,12 +19,13 @@ impl Objects {
     }
 }
 
-fn copied_all(alloc: Global, objects: &[Object]) -> Result<Vec<Object>, Memory>
+fn copied_all(alloc: Global, objects: &[Held]) -> Result<Vec<Held>, Memory>
     ensures { IfOk result (λ copies. copies.items ≡ objects.now) }
 {
     let mut copies = Vec::new(alloc);
     for object in objects {
-        copies.push(copied(alloc, object)?)?;
+        let copy = copied(alloc, object.object())?;
+        copies.push(Held::with_hashes_of(alloc, copy, object))?;
     }
     Ok(copies)
 }

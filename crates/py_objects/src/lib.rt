@@ -15,6 +15,8 @@ mod displays;
 mod equal;
 mod find;
 mod fork;
+mod hashes;
+mod held;
 mod instances;
 mod keys;
 mod lists;

@@ -5,6 +5,7 @@ ghost use Rattle.py_meaning.specs.Lists.{read_pair};
 ghost use Rattle.py_meaning.specs.Worlds.{object_at, with_object, elements, pairs, attributes};
 ghost use Rattle.py_meaning.specs.Operations.{made, kind_of, size_of, key_changes_of, args_of, list_get, attr_get};
 
+use crate::held::Held;
 use crate::places::{attribute_place, index_place};
 use py_meaning::{ObjKind, Object, PyTuple, Sequence, Value};
 use pyn_base::{Memory, Name, ObjId, PyInt};
@@ -15,7 +16,7 @@ use std::mem;
 /// A table of objects. A reference is a place in it; making an object appends it.
 #[derive(Drop)]
 pub struct Objects {
-    pub(crate) objects: Vec<Object>,
+    pub(crate) objects: Vec<Held>,
     pub(crate) alloc: Global,
 }
 
@@ -61,8 +62,16 @@ impl Objects {
         ensures ok { IfOk result (λ id. made object self.old ≡ (id, self.new)) }
         ensures err { OnErr result (self.new ≡ self.old) }
     {
+        self.make_held(Held::new(object))
+    }
+
+    /// The same, with the hashes of its keys.
+    pub(crate) fn make_held(&mut self, held: Held) -> Result<ObjId, Memory>
+        ensures ok { IfOk result (λ id. made held self.old ≡ (id, self.new)) }
+        ensures err { OnErr result (self.new ≡ self.old) }
+    {
         let id = ObjId(self.objects.len() as u64);
-        self.objects.push(object)?;
+        self.objects.push(held)?;
         Ok(id)
     }
 
@@ -71,28 +80,51 @@ impl Objects {
         ensures object { result ≡ object_at self.old id }
         ensures rest { self.new ≡ with_object self.old id (Object.List []) }
     {
-        let empty = Object::List(Sequence::new(self.alloc));
-        match self.objects.get_mut(id.0 as usize) {
-            Some(object) => mem::replace(object, empty),
-            None => empty,
-        }
+        self.take_held(id).into_object()
     }
 
     pub(crate) fn put(&mut self, id: ObjId, object: Object)
         ensures { self.new ≡ with_object self.old id object }
     {
+        self.put_held(id, Held::new(object));
+    }
+
+    /// The same of an object with the hashes of its keys.
+    pub(crate) fn take_held(&mut self, id: ObjId) -> Held
+        ensures object { result ≡ object_at self.old id }
+        ensures rest { self.new ≡ with_object self.old id (Object.List []) }
+    {
+        let empty = Held::new(Object::List(Sequence::new(self.alloc)));
+        match self.objects.get_mut(id.0 as usize) {
+            Some(held) => mem::replace(held, empty),
+            None => empty,
+        }
+    }
+
+    pub(crate) fn put_held(&mut self, id: ObjId, held: Held)
+        ensures { self.new ≡ with_object self.old id held }
+    {
         let at = id.0 as usize;
         if at < self.objects.len() {
-            self.objects[at] = object;
+            self.objects[at] = held;
         } else {
-            drop(object);
+            drop(held);
         }
+    }
+
+    pub(crate) fn held(&self, id: ObjId) -> Option<&Held>
+        ensures { option_copied result ≡ slice_get self.now id.0 }
+    {
+        self.objects.get(id.0 as usize)
     }
 
     pub(crate) fn object(&self, id: ObjId) -> Option<&Object>
         ensures { option_copied result ≡ slice_get self.now id.0 }
     {
-        self.objects.get(id.0 as usize)
+        match self.held(id) {
+            Some(held) => Some(held.object()),
+            None => None,
+        }
     }
 
     /// What allocates for the table.

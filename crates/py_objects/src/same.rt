@@ -6,7 +6,7 @@ ghost use Rattle.py_meaning.specs.declared.value.Value.{out-Value};
 use crate::Value;
 use pyn_base::{BuiltClass, ClassId, PyInt};
 
-fn place_of_class(class: BuiltClass) -> u32
+pub(crate) fn place_of_class(class: BuiltClass) -> u32
     ensures { result ≡ place_of_class class }
 {
     class as u32

@@ -47,6 +47,39 @@ const KEYS: &[Row] = &[
     (Changes(At(0)), Is(Int(4)), 0),
 ];
 
+/// A dict of more than a few keys finds them as a small one does, also after a deletion and in a copy.
+const MANY_KEYS: &[Row] = &[
+    (
+        Dict(&[
+            (Int(0), Int(0)),
+            (Int(1), Int(1)),
+            (Int(2), Int(2)),
+            (Int(3), Int(3)),
+            (Int(4), Int(4)),
+            (Int(5), Int(5)),
+            (Int(6), Int(6)),
+            (Int(7), Int(7)),
+            (Text("ab"), Int(8)),
+        ]),
+        Made,
+        11,
+    ),
+    (Item(At(0), Text("ab")), Is(Int(8)), 3),
+    (PutItem(At(0), Truth(true), Text("b")), Is(Nothing), 1),
+    (Item(At(0), Int(1)), Is(Text("b")), 1),
+    (Item(At(0), Int(9)), Raises(KeyError), 1),
+    (DeleteItem(At(0), Int(0)), Is(Nothing), 10),
+    (Item(At(0), Int(0)), Raises(KeyError), 1),
+    (Item(At(0), Int(7)), Is(Int(7)), 1),
+    (Key(At(0), 0), Is(Int(1)), 0),
+    (Method(At(0), "copy", &[]), Made, 8),
+    (Compare(Eq, At(0), At(9)), Is(Truth(true)), UNASKED),
+    (PutItem(At(9), Int(0), Int(0)), Is(Nothing), 1),
+    (Key(At(9), 8), Is(Int(0)), 0),
+    (Item(At(9), Int(0)), Is(Int(0)), 1),
+    (Call(Len, &[At(0)]), Is(Int(8)), 0),
+];
+
 /// Lists are compared to level 50, and one that holds itself has no end.
 const DEPTHS: &[Row] = &[
     (Nested(50), Made, 0),
@@ -109,9 +142,10 @@ const WALKED: &[Row] = &[
     (Call(Builtin::List, &[Int(1)]), Raises(TypeError), 0),
 ];
 
-const TABLES: [(&str, &[Row]); 6] = [
+const TABLES: [(&str, &[Row]); 7] = [
     ("equal", EQUAL),
     ("keys", KEYS),
+    ("many keys", MANY_KEYS),
     ("depths", DEPTHS),
     ("tuples", TUPLES),
     ("shared", SHARED),

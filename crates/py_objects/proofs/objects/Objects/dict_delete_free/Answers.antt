@@ -4,6 +4,6 @@ use Rattle.py_objects.proofs.objects.Objects.dict_delete_free.Goals as goal
 
 pub returns : goal.returns
 returns c = record {
-  meant = written_free _ _ _ _ _ _ c.take-object.ensures.object c.take-object.ensures.rest c.put.ensures (delete_pair c.args.key.now) _ c.delete_pair-answer.ensures.meant;
-  unchanged = unwritten _ _ _ _ _ _ c.take-object.ensures.object c.take-object.ensures.rest c.put.ensures _ c.delete_pair-answer.ensures.unchanged;
+  meant = written_free _ _ _ _ _ _ c.take_held-held.ensures.object c.take_held-held.ensures.rest c.put_held.ensures (delete_pair c.args.key.now) _ c.delete_pair-answer.ensures.meant;
+  unchanged = unwritten _ _ _ _ _ _ c.take_held-held.ensures.object c.take_held-held.ensures.rest c.put_held.ensures _ c.delete_pair-answer.ensures.unchanged;
 }

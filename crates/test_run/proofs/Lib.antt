@@ -1,5 +1,3 @@
-mod Again
-mod Alone
 mod Given
 mod Taking
 mod Told

@@ -7,12 +7,12 @@ ghost use Rattle.py_plain.specs.Program.{program_of};
 ghost use Rattle.suite_model.specs.Kept.{kept_from, kept_of, gains_of};
 ghost use Rattle.line_laws.specs.Laws.{IsReadFrom};
 ghost use Rattle.goal_laws.specs.Laws.{HasParents};
-ghost use Rattle.test_run.specs.Laws.{Leaves, LeavesKept};
+ghost use Rattle.test_run.specs.Laws.{LeavesKept};
 
 use crate::gains::gains_of;
-use crate::laws::{law_of_ends, law_of_gains, law_of_runs};
+use crate::laws::{law_of_gains, law_of_runs};
 use crate::ran::Ran;
-use crate::steps::{Steps, is_kept, run_steps};
+use crate::steps::{Steps, run_steps};
 use goal_graph::Goals;
 use goal_laws::laws_of_taken_goals;
 use py_frames::{Chains, Marks};
@@ -21,38 +21,18 @@ use py_syntax::{Module, Stmt};
 use py_tables::Tables;
 use pyn_base::Memory;
 use std::alloc::Global;
-use suite_model::{Test, laws_of_kept_tests};
+use suite_model::Test;
 use test_chromosome::to_syntax;
+use timed_marks::TimedMarks;
 
-/// A run of statements, and the marks that it left.
+/// A run of statements, and the marks of what is kept of it.
 #[derive(Drop)]
 struct Marked {
     steps: Steps,
     marks: Marks,
 }
 
-/// Runs statements in a module that was just imported, with marks for so many nodes.
-fn run_marked<'m>(
-    alloc: Global,
-    tree: &'m Module,
-    tables: &Tables<'m>,
-    nodes: u32,
-    stmts: &[Stmt],
-    limit: u32,
-) -> Result<Marked, Memory>
-    requires { tables.now ≡ program_of tree.now }
-    ensures { IfOk result (λ run. Leaves nodes (kept_from tables.now limit stmts.now (imported tables.now [])) run.steps.used.items run.steps.end run.marks) }
-{
-    law_of_runs();
-    let mut machine = Machine::load(alloc, tree, tables, Marks::new(alloc, nodes)?)?;
-    let steps = run_steps(alloc, &mut machine, stmts, limit)?;
-    Ok(Marked {
-        steps,
-        marks: machine.into_probe(),
-    })
-}
-
-/// The same, with the marks of what is kept alone. Where the last statement isn't kept, those before it are run once more.
+/// Runs statements in a module that was just imported, with marks for so many nodes. No clock counts 2^64 events: no run is that long.
 fn run_kept<'m>(
     alloc: Global,
     tree: &'m Module,
@@ -64,14 +44,13 @@ fn run_kept<'m>(
     requires { tables.now ≡ program_of tree.now }
     ensures { IfOk result (λ run. LeavesKept nodes (kept_from tables.now limit stmts.now (imported tables.now [])) run.steps.used.items run.steps.end run.marks) }
 {
-    laws_of_kept_tests();
-    law_of_ends();
-    let Marked { steps, marks } = run_marked(alloc, tree, tables, nodes, stmts, limit)?;
-    if is_kept(steps.end) {
-        return Ok(Marked { steps, marks });
+    law_of_runs();
+    let mut machine = Machine::load(alloc, tree, tables, TimedMarks::new(alloc, nodes)?)?;
+    let steps = run_steps(alloc, &mut machine, stmts, limit)?;
+    if steps.clock == u64::MAX {
+        return Err(Memory);
     }
-    let kept = &stmts[..steps.used.len()];
-    let Marked { steps: _, marks } = run_marked(alloc, tree, tables, nodes, kept, limit)?;
+    let marks = machine.into_probe().before(alloc, steps.clock)?;
     Ok(Marked { steps, marks })
 }
 

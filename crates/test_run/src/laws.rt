@@ -1,24 +1,20 @@
-// What the marks of a run tell of its trail.
-ghost use Rattle.test_run.specs.Laws.{RecordedAsMarked, KeptEndsWell, MarksGive};
+// What the timed marks of a run tell of its trail.
+ghost use Rattle.test_run.specs.Laws.{TimedAsKept, MarksGive};
 
 use crate::recorded::Recorded;
 use goal_graph::laws_of_marks;
-use py_frames::Marks;
 use py_plain::laws_of_meaning;
+use timed_marks::{TimedMarks, law_of_times};
 
-/// A run that marks keeps what a recorded one keeps, and the marks are those of the trail.
-#[tactic(auto, using(crate::proofs::Told::recorded_as_marked))]
+/// A timed run tells what a recorded one keeps.
+#[tactic(auto, using(crate::proofs::Told::timed_as_kept))]
 pub(crate) fn law_of_runs()
-    ensures { RecordedAsMarked }
+    ensures { TimedAsKept }
 {
-    laws_of_meaning::<Recorded, Marks>();
+    laws_of_meaning::<Recorded, TimedMarks>();
+    laws_of_meaning::<Recorded, Recorded>();
+    law_of_times();
 }
-
-/// The kept statements, run alone, end with all of them kept.
-#[tactic(auto, using(crate::proofs::Alone::kept_ends_well))]
-pub(crate) fn law_of_ends()
-    ensures { KeptEndsWell }
-{}
 
 /// Marks that a trail leaves give the goals that the trail takes.
 #[tactic(auto, using(crate::proofs::Given::marks_give))]

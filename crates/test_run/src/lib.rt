@@ -2,7 +2,7 @@
 //!
 //! A test is run by the frame machine, with marks that tell which nodes began and which outcomes came. What is kept is the longest prefix whose
 //! statements all end normally, with the one that raises where that ends it. A statement that runs out of steps, or leaves the subset, has left
-//! its marks, so the kept ones are then run once more without it.
+//! its marks too; each mark has the time at which it was first set, so those of the kept statements are told from them, and nothing is run twice.
 //!
 //! This layer must never know how a test was drawn, or what another test gained.
 #![tactic(auto)]

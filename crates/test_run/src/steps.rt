@@ -1,21 +1,22 @@
 // The statements of a test, one after another.
 ghost use Rattle.std.specs.Prelude.{◌≡◌, None, IfOk};
-ghost use Rattle.py_plain.specs.Runs.{watched_by};
+ghost use Rattle.timed_marks.specs.Timed.{timer};
 ghost use Rattle.test_run.specs.Watched.{Told, is_kept, kept_for, end_after};
 
-use py_frames::Probe;
 use py_machine::Machine;
 use py_plain::End;
 use py_syntax::Stmt;
 use pyn_base::Memory;
 use std::alloc::Global;
 use suite_model::TestEnd;
+use timed_marks::TimedMarks;
 
-/// The steps of each statement that is kept, and how the test ends.
+/// The steps of each statement that is kept, how the test ends, and when the last kept one had ended.
 #[derive(Drop)]
 pub(crate) struct Steps {
     pub(crate) used: Vec<u32>,
     pub(crate) end: TestEnd,
+    pub(crate) clock: u64,
 }
 
 /// How a test ends where a statement does, if it ends there.
@@ -33,7 +34,7 @@ fn end_after(end: End) -> Result<Option<TestEnd>, Memory>
 }
 
 /// Whether all statements of a test that ends so are kept, also the last.
-pub(crate) fn is_kept(end: TestEnd) -> bool
+fn is_kept(end: TestEnd) -> bool
     ensures { result ≡ is_kept end }
 {
     match end {
@@ -44,31 +45,34 @@ pub(crate) fn is_kept(end: TestEnd) -> bool
     }
 }
 
-/// Runs statements one after another, to the first that doesn't end normally. The machine keeps what it was told of all of them.
-pub(crate) fn run_steps<'s, P: Probe>(
+/// Runs statements one after another, to the first that doesn't end normally. The machine keeps what was seen of all of them.
+pub(crate) fn run_steps<'s>(
     alloc: Global,
-    machine: &mut Machine<'s, '_, P>,
+    machine: &mut Machine<'s, '_, TimedMarks>,
     stmts: &'s [Stmt],
     limit: u32,
 ) -> Result<Steps, Memory>
     requires { machine.old.ended ≡ None }
-    ensures { IfOk result (λ steps. Told (kept_for (watched_by P.after_began P.after_judged) machine.old.tables.now limit stmts.now machine.old.state) steps.used.items steps.end machine.new.state.seen) }
+    ensures { IfOk result (λ steps. Told (kept_for timer machine.old.tables.now limit stmts.now machine.old.state) steps.used.items steps.end steps.clock machine.new.state.seen) }
 {
     let mut used = Vec::new(alloc);
     for stmt in stmts {
+        let mut clock = machine.probe().clock();
         let end = machine.run_statement(stmt, limit);
         match end_after(end)? {
             None => used.push(machine.used())?,
             Some(end) => {
                 if is_kept(end) {
                     used.push(machine.used())?;
+                    clock = machine.probe().clock();
                 }
-                return Ok(Steps { used, end });
+                return Ok(Steps { used, end, clock });
             }
         }
     }
     Ok(Steps {
         used,
         end: TestEnd::Ok,
+        clock: machine.probe().clock(),
     })
 }

@@ -1,13 +1,13 @@
 use Rattle.std.proofs.Common.{sym, ap, ◌∙◌, ℕ, Bool, Some, ◌++◌, ◌∷◌, [], Vec, Global}
-use Rattle.py_plain.specs.Runs.{watched_by}
+use Rattle.timed_marks.specs.Timed.{timer}
 use Rattle.test_run.proofs.Walked.{pushed, same_steps, walked_all, walked_to, steps_with}
 use Rattle.test_run.proofs.steps.run_steps.Goals.{then-is_kept+in_ok-push-in-Some, else-is_kept}
 use Rattle.test_run.proofs.steps.run_steps.Goals as goal
 
 pub returns-in-Some : goal.returns-in-Some
-returns-in-Some g c =
+returns-in-Some c =
     let s = c.run_statement-end in
-    let told = walked_to c.args.limit (watched_by g.P.Probe.after_began g.P.Probe.after_judged) c.loop-stmt.machine.tables.now s.result c.in-Some.end c.loop-stmt.used.items s.new.self.used c.args.stmts.now c.loop-stmt.stmt-index
+    let told = walked_to c.args.limit timer c.loop-stmt.machine.tables.now s.result c.in-Some.end c.loop-stmt.used.items s.new.self.used c.args.stmts.now c.loop-stmt.stmt-index
     c.stmt-item.result c.loop-stmt.machine.state s.new.self.state _ c.loop-stmt-test.true c.stmt-item.is c.loop-stmt.invariant.kept (ap Some (sym c.in-Some.is) ∙ c.in_ok-end_after.ensures) (s.ensures.meant c.loop-stmt.invariant.goes)
     (s.ensures.steps c.loop-stmt.invariant.goes) in
     elim c.if-is_kept.branch [
@@ -26,6 +26,6 @@ returns-in-Some g c =
     ]
 
 pub returns : goal.returns
-returns g c =
-    walked_all c.args.limit (watched_by g.P.Probe.after_began g.P.Probe.after_judged) c.loop-stmt.machine.tables.now c.loop-stmt.used.items c.args.stmts.now c.loop-stmt.stmt-index
+returns c =
+    walked_all c.args.limit timer c.loop-stmt.machine.tables.now c.loop-stmt.used.items c.args.stmts.now c.loop-stmt.stmt-index
     c.loop-stmt.machine.state _ c.loop-stmt-test.false c.loop-stmt.invariant.kept

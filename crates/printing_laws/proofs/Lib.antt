@@ -1,4 +1,5 @@
 mod BlockRows
+mod ByExample
 mod Forms
 mod Groups
 mod HeaderRows

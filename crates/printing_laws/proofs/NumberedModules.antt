@@ -28,7 +28,7 @@ use Rattle.py_printing.specs.Texts.{shape_tokens}
 use Rattle.py_layout.specs.Erased.{erased_by, erased_clause_by, erased_stmt_by, erased}
 use Rattle.py_layout.specs.Headers.{header_tokens, param_tokens, fresh_param, with_default, lone, returns_tokens}
 use Rattle.py_layout.specs.Modules.{func_rows, erased_func, erased_member, erased_item, erased_module}
-use Rattle.py_layout.specs.Rows.{Placed, Row, Rows, row, indent, headed, arms_rows, maybe_headed, kind_rows, clause_rows, stmt_rows, rows_of, block_rows, placed}
+use Rattle.py_layout.specs.Rows.{Placed, row, indent, headed, arms_rows, maybe_headed, kind_rows, clause_rows, stmt_rows, rows_of, block_rows, placed}
 use Rattle.py_layout.specs.Small.{augmenting_token, fresh, indexed, joined, list_tokens, maybe_tokens, message_tokens, typed_tokens}
 use Rattle.py_printer.specs.Lines.{Line}
 use Rattle.py_annotation_layout.specs.Annotations.{annotation_tokens}

@@ -5,6 +5,8 @@
 //! numbers of its nodes play no part in it (`py_nodes`). Laws alone: nothing is read or printed here, and nothing is known of what a module means.
 #![tactic(auto)]
 
+mod examples;
 mod laws;
 
+pub use examples::brackets_by_example;
 pub use laws::{law_of_numbered_modules, law_of_printed_expressions, law_of_printed_modules};

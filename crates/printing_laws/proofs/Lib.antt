@@ -1,0 +1,13 @@
+mod BlockRows
+mod ByExample
+mod Forms
+mod Groups
+mod HeaderRows
+mod Holds
+mod ModuleRows
+mod NumberedExpressions
+mod NumberedModules
+mod NumberedStatements
+mod ReadBack
+mod SmallRows
+mod Tokens

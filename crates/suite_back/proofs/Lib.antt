@@ -1,0 +1,9 @@
+pub mod Asserted
+pub mod Cases
+pub mod Classes
+pub mod Displays
+pub mod Entries
+pub mod Steps
+pub mod Suites
+pub mod Truths
+pub mod Variables

@@ -1,5 +1,5 @@
 -- A timed run tells what a recorded one keeps: statement by statement, since who watches plays no part, and what a statement adds comes last.
-use Rattle.std.proofs.Common.{◌≡◌, refl, sym, ap, ◌∙◌, subst, append-nil, append_assoc, ℕ, ◌<◌, Bool, List, [], ◌∷◌, ◌++◌}
+use Rattle.std.proofs.Common.{◌≡◌, refl, sym, ap, ◌∙◌, subst, append-nil, append_assoc, ℕ, Bool, List, [], ◌∷◌, ◌++◌}
 use Rattle.pyn_base.specs.declared.ids.NodeId.{NodeId}
 use Rattle.py_syntax.specs.declared.stmt.Stmt.{Stmt}
 use Rattle.py_frames.specs.declared.marks.Mark.{Mark}
@@ -41,9 +41,10 @@ module _ (program : Program) (limit : ℕ) where
     statement_goes_on stmt s =
         let keep : Trail → Trail = λ trail. s.seen ++ trail in
         let alone = record s { left = limit; seen = [] } in
-        let e = same keep recorder recorder (λ node trail. sym (append_assoc s.seen trail (Began node ∷ []))) (λ node judged outcome trail. sym (append_assoc s.seen trail (Decided node judged outcome ∷ []))) program stmt alone in
-        ((means recorder program stmt alone).1.seen,
-        ap (λ (trail : Trail). (means recorder program stmt (record s { left = limit; seen = trail })).1.seen) (sym (append-nil s.seen)) ∙ sym (ap (λ r. r.1.seen) e))
+        let e = same keep recorder recorder (λ node trail. sym (append_assoc s.seen trail (Began node ∷ []))) (λ node judged outcome trail. sym (append_assoc s.seen trail (Decided node judged outcome ∷ []))) program stmt alone in (
+          (means recorder program stmt alone).1.seen,
+          ap (λ (trail : Trail). (means recorder program stmt (record s { left = limit; seen = trail })).1.seen) (sym (append-nil s.seen)) ∙ sym (ap (λ r. r.1.seen) e),
+        )
 
     by_end_goes_on : (e : End) (before after : State World Trail) (rest : Kept) (all : Trail) → GoesOn before.seen after.seen → GoesOn rest.trail all
         → GoesOn (recorded_by limit e before after rest).trail (all_by e after all)

@@ -98,7 +98,7 @@ fn import(alloc: Global, tokens: &[Token]) -> Result<Form, ExprFault>
 
 impl Reader {
     /// What is after a header's colon on its line.
-    fn block(&self, tokens: &[Token]) -> Result<Option<Items<Stmt>>, ExprFault>
+    pub fn block(&self, tokens: &[Token]) -> Result<Option<Items<Stmt>>, ExprFault>
         ensures { Gives result (block self.now.line tokens.now) }
     {
         let Some(_) = first(tokens) else {

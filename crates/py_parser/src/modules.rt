@@ -29,7 +29,7 @@ const IN_MODULE: usize = 20;
 const IN_CLASS: usize = 19;
 
 /// The items from the last to the first.
-fn reversed<T: Drop>(alloc: Global, items: Items<T>) -> Result<Items<T>, AllocError>
+pub fn reversed<T: Drop>(alloc: Global, items: Items<T>) -> Result<Items<T>, AllocError>
     ensures { IfOk result (λ all. all ≡ reverse items) }
 {
     let mut rest = items;
@@ -41,7 +41,7 @@ fn reversed<T: Drop>(alloc: Global, items: Items<T>) -> Result<Items<T>, AllocEr
 }
 
 /// What the function makes of each item.
-fn each<T: Drop, U: Drop, G: Fn(T) -> U>(
+pub fn each<T: Drop, U: Drop, G: Fn(T) -> U>(
     alloc: Global,
     items: Items<T>,
     wrap: G,
@@ -213,7 +213,7 @@ fn import_line(scope: Scope, group: Group<'_>, names: Items<Name>) -> Result<Ite
 
 /// What a statement at a module's level is, by the form of its first line.
 #[tactic(auto, unfolding(py_grammar::specs::Modules::module_item))]
-fn module_item(
+pub fn module_item(
     alloc: Global,
     end: Option<Refusal>,
     group: Group<'_>,
@@ -282,7 +282,7 @@ fn has_future(items: &[Item]) -> bool
     items.iter().any(|item| is_future(item))
 }
 
-fn fault_in(fault: Option<(Line, Construct)>) -> Option<Refusal>
+pub fn fault_in(fault: Option<(Line, Construct)>) -> Option<Refusal>
     ensures { result ≡ spec.fault_in fault }
 {
     match fault {

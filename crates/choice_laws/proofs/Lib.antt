@@ -1,0 +1,5 @@
+mod Choosing
+mod Counts
+mod Covered
+mod Minimality
+mod Own
